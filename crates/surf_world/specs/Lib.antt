@@ -1,0 +1,5 @@
+pub mod Systems
+pub mod Choices
+pub mod Worlds
+pub mod Picks
+pub mod Renamings
