@@ -4,6 +4,8 @@
 //! with and without joined sides.
 #![tactic(auto)]
 
+mod lattice;
 mod site;
 
+pub use lattice::Lattice;
 pub use site::{GridKind, Site};

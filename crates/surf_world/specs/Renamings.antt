@@ -1,5 +1,5 @@
--- The same rules, surface and system under other names, and what a renaming keeps.
-use Rattle.std.specs.Prelude.{◌≡◌, ℕ, ◌<◌, Bool, true, nat_eq, List, [], map, Option, Some, None, All, slice_get, unwrap_or, IfSome}
+-- The same rules, surface and system under other names.
+use Rattle.std.specs.Prelude.{ℕ, ◌<◌, List, map, All, IfSome}
 use Rattle.std.specs.Option.{option_map}
 use Rattle.surf_world.specs.Systems.{Rule, Surface, System}
 
@@ -17,14 +17,6 @@ renamed f S = record { grid = S.grid; rules = map (renamed_rule f) S.rules }
 
 abbrev pub renamed_system : {M N : Type 0} → (M → N) → System M → System N
 renamed_system f S = record { surface = renamed f S.surface; start = map f S.start }
-
--- the text of a number
-abbrev pub text_of : List (List ℕ) → ℕ → List ℕ
-text_of texts k = unwrap_or (slice_get texts k) []
-
--- no two places have one text
-abbrev pub AreDistinct : List (List ℕ) → Type 0
-AreDistinct texts = (i j : ℕ) (t : List ℕ) → slice_get texts i ≡ Some t → slice_get texts j ≡ Some t → i ≡ j
 
 -- the numbers of a rule are below n
 pub record RuleBelow (n : ℕ) (r : Rule ℕ) : Type 0 where
