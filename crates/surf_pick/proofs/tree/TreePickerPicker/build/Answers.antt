@@ -1,4 +1,4 @@
-use Rattle.std.proofs.Common.{rules, ◌≡◌, ◌≤◌, ◌<◌, ◌^◌, ◌+◌, ◌-◌, ◌++◌, ◌/◌, length, sum, replicate}
+use Rattle.std.proofs.Common.{rules, ◌≡◌, ◌≤◌, ◌<◌, ◌-◌, ◌++◌, ◌/◌, length, replicate}
 use Rattle.std.specs.Prelude.{max}
 use Rattle.surf_pick.proofs.Kepts.{built}
 use Rattle.surf_pick.proofs.tree.TreePickerPicker.build.Goals as goal
