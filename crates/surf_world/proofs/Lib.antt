@@ -1,2 +1,5 @@
 pub mod Tests
 pub mod Laws
+pub mod Members
+pub mod Places
+pub mod Listed
