@@ -3,3 +3,5 @@ pub mod Laws
 pub mod Members
 pub mod Places
 pub mod Listed
+pub mod Local
+pub mod Around
