@@ -5,3 +5,5 @@ pub mod Places
 pub mod Listed
 pub mod Local
 pub mod Around
+pub mod Chosen
+pub mod Agree
