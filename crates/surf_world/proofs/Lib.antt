@@ -7,3 +7,4 @@ pub mod Local
 pub mod Around
 pub mod Chosen
 pub mod Agree
+pub mod Renamed
