@@ -53,3 +53,10 @@ pick_along rate g (y ∷ ys) (suc k) x rest r is before less =
     let m = sum (take k (map (λ x. sum_by rate (g x)) ys)) + rest in
     let e : r ≡ sum_by rate (g y) + m = omega (arith, before, s) in
     ap (λ n. pick rate (g y ++ flat_map g ys) n) e ∙ pick_second rate (g y) (flat_map g ys) m ∙ pick_along rate g ys k x rest m is refl less
+
+pub pick_some : {X : Type 0} (rate : X → ℕ) (xs ys : List X) (r : ℕ) (x : X) → pick rate xs r ≡ Some x → pick rate (xs ++ ys) r ≡ Some x
+pick_some rate [] ys r x is = cc
+pick_some rate (y ∷ xs) ys r x is = ⊎_elim
+    (λ here. pick_here rate y (xs ++ ys) r here ∙ sym (pick_here rate y xs r here) ∙ is)
+    (λ later. pick_later rate y (xs ++ ys) r later ∙ pick_some rate xs ys (r - rate y) x (sym (pick_later rate y xs r later) ∙ is))
+    (cases_lt r (rate y))

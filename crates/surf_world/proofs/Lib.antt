@@ -8,3 +8,4 @@ pub mod Around
 pub mod Chosen
 pub mod Agree
 pub mod Renamed
+pub mod Sums
