@@ -2,7 +2,7 @@
 use Rattle.std.specs.Prelude.{nat_lt, ◌==◌, is_none, filter}
 use Rattle.std.specs.List.{flat_map, range_with_len}
 use Rattle.std.specs.Option.{option_map, option_map_or}
-use Rattle.std.proofs.Common.{ℕ, ◌≡◌, ◌+◌, ◌<◌, inl, inr, Bool, true, false, ◌&&◌, List, [], length, map, Option, Some, None, slice_get, refl, sym, ◌∙◌, ap, arith, nat_eq}
+use Rattle.std.proofs.Common.{ℕ, ◌≡◌, ◌+◌, ◌<◌, inl, inr, Bool, true, false, ◌&&◌, List, [], length, map, Option, Some, None, slice_get, refl, sym, ◌∙◌, ap, subst, arith, nat_eq}
 use Rattle.std.proofs.lemmas.Bool.{cases_eq, eq-eqb, ne_eqb}
 use Rattle.std.proofs.lemmas.List.{length-map}
 use Rattle.std.proofs.lemmas.Option.{slice_get-map}
@@ -86,3 +86,17 @@ pub pair_agrees : (g : Grid) (rules : List Rule) (c : List ℕ) (p q : Site) (a 
 pair_agrees g rules c p q a b adj at there =
     on_agrees (enabled_test nat_eq (surface_of g rules) c) (λ k. option_map_or (is_pair a b) (slice_get rules k) false) (length (map rule_of rules)) (length rules) p (Some q) (length-map rules rule_of)
     (λ k. ap (fits_test nat_eq g c (event_of p (Some q) k)) (slice_get-map rule_of rules k) ∙ pair_fits g c p q a b k (slice_get rules k) adj at there)
+
+-- the same at the surface of a world
+module _ (S : Surface ℕ) (rules : List Rule) (same : map rule_of rules ≡ S.rules) where
+  pub alone_events : (c : List ℕ) (p : Site) (a : ℕ) (ks : List ℕ) → IsInside S.grid p → slice_get c (place S.grid p) ≡ Some a → ks ≡ alone_of rules a
+      → events_on (enabled_test nat_eq S c) (length S.rules) p None ≡ map (event_of p None) ks
+  alone_events c p a ks i at is =
+      subst (λ (R : List (systems.Rule ℕ)). events_on (enabled_test nat_eq (record { grid = S.grid; rules = R }) c) (length R) p None ≡ map (event_of p None) (alone_of rules a)) same (alone_agrees S.grid rules c p a i at)
+      ∙ ap (map (event_of p None)) (sym is)
+
+  pub pair_events : (c : List ℕ) (p q : Site) (a b : ℕ) (ks : List ℕ) → Adjacent S.grid p q → slice_get c (place S.grid p) ≡ Some a → slice_get c (place S.grid q) ≡ Some b → ks ≡ pair_of rules a b
+      → events_on (enabled_test nat_eq S c) (length S.rules) p (Some q) ≡ map (event_of p (Some q)) ks
+  pair_events c p q a b ks adj at there is =
+      subst (λ (R : List (systems.Rule ℕ)). events_on (enabled_test nat_eq (record { grid = S.grid; rules = R }) c) (length R) p (Some q) ≡ map (event_of p (Some q)) (pair_of rules a b)) same (pair_agrees S.grid rules c p q a b adj at there)
+      ∙ ap (map (event_of p (Some q))) (sym is)

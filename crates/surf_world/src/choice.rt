@@ -1,43 +1,11 @@
 ghost use Rattle.std.specs.Prelude.{◌≡◌, ◌↔◌, ◌≤◌, ◌<◌, ◌*◌, IsTrue, Some, None, Ok, Err, [], All, length, map, sum_by, nat_eq};
 ghost use Rattle.surf_lattice.specs.Grids.{IsInside, Adjacent, degree, neighbour};
 ghost use Rattle.surf_world.specs.Systems.{Stuck};
-ghost use Rattle.surf_world.specs.Worlds.{rule_of};
 ghost use Rattle.surf_world.specs.Choices.{enabled_test, event_of, events_on, events_toward, choices_at};
 ghost use Rattle.surf_world.specs.Picks.{rate_at, rate_of, pick, weight_of, Picked};
 
 use crate::{Event, World};
 use surf_lattice::{Lattice, Site};
-use surf_rules::RuleBook;
-
-// The sum of the rates of these rules.
-fn sum_of(book: &RuleBook, numbers: &[u32]) -> u128
-    requires known { All (λ k. k < length book.now) numbers.now }
-    requires few { length numbers.now ≤ 1048576 }
-    ensures sum { result ≡ sum_by (rate_at (map rule_of book.now)) numbers.now }
-    ensures bound { result ≤ 1048576 * 1000000000000 }
-{
-    let mut sum = 0;
-    for number in numbers {
-        sum += u128::from(book.rule(*number).rate);
-    }
-    sum
-}
-
-// The first of these rules at which the running sum of rates exceeds r, or what is left of r.
-fn nth_of(book: &RuleBook, numbers: &[u32], r: u128) -> Result<u32, u128>
-    requires { All (λ k. k < length book.now) numbers.now }
-    ensures { Picked (rate_at (map rule_of book.now)) numbers.now r result }
-{
-    let mut rest = r;
-    for number in numbers {
-        let rate = u128::from(book.rule(*number).rate);
-        if rest < rate {
-            return Ok(*number);
-        }
-        rest -= rate;
-    }
-    Err(rest)
-}
 
 impl<L: Lattice> World<L> {
     // The rules that are enabled at this site alone.
@@ -47,7 +15,6 @@ impl<L: Lattice> World<L> {
         ensures known { All (λ k. k < length self.now.surface.rules) result.now }
         ensures few { length result.now ≤ 1048576 }
     {
-        let _bound = self.book().len();
         self.book().alone(self.at(site))
     }
 
@@ -58,8 +25,50 @@ impl<L: Lattice> World<L> {
         ensures known { All (λ k. k < length self.now.surface.rules) result.now }
         ensures few { length result.now ≤ 1048576 }
     {
-        let _bound = self.book().len();
         self.book().pair(self.at(first), self.at(second))
+    }
+
+    // The sum of the rates of these rules.
+    fn sum_of(&self, numbers: &[u32]) -> u128
+        requires known { All (λ k. k < length self.now.surface.rules) numbers.now }
+        requires few { length numbers.now ≤ 1048576 }
+        ensures sum { result ≡ sum_by (rate_at self.now.surface.rules) numbers.now }
+        ensures bound { result ≤ 1048576 * 1000000000000 }
+    {
+        let book = self.book();
+        let mut sum = 0;
+        for number in numbers {
+            sum += u128::from(book.rule(*number).rate);
+        }
+        sum
+    }
+
+    // The first event of these rules, at these sites, at which the running sum of rates exceeds
+    // r, or what is left of r behind them.
+    fn nth_of(
+        &self,
+        numbers: &[u32],
+        first: Site,
+        second: Option<Site>,
+        r: u128,
+    ) -> Result<Event, u128>
+        requires { All (λ k. k < length self.now.surface.rules) numbers.now }
+        ensures { Picked (rate_of self.now.surface) (map (event_of first second) numbers.now) r result }
+    {
+        let book = self.book();
+        let mut rest = r;
+        for number in numbers {
+            let rate = u128::from(book.rule(*number).rate);
+            if rest < rate {
+                return Ok(Event {
+                    rule: *number,
+                    first,
+                    second,
+                });
+            }
+            rest -= rate;
+        }
+        Err(rest)
     }
 
     fn weight_toward(&self, site: Site, direction: u32) -> u128
@@ -69,7 +78,7 @@ impl<L: Lattice> World<L> {
         ensures bound { result ≤ 1048576 * 1000000000000 }
     {
         match self.grid().neighbour(site, direction) {
-            Some(second) => sum_of(self.book(), self.rules_between(site, second)),
+            Some(second) => self.sum_of(self.rules_between(site, second)),
             None => 0,
         }
     }
@@ -80,23 +89,11 @@ impl<L: Lattice> World<L> {
         ensures sum { result ≡ weight_of self.now.surface self.now.names site }
         ensures bound { result ≤ 7 * (1048576 * 1000000000000) }
     {
-        let mut sum = sum_of(self.book(), self.rules_at(site));
+        let mut sum = self.sum_of(self.rules_at(site));
         for direction in 0..self.grid().degree() {
             sum += self.weight_toward(site, direction);
         }
         sum
-    }
-
-    fn nth_alone(&self, site: Site, r: u128) -> Result<Event, u128>
-        requires { IsInside self.now.surface.grid site }
-        ensures { Picked (rate_of self.now.surface) (events_on (enabled_test nat_eq self.now.surface self.now.names) (length self.now.surface.rules) site None) r result }
-    {
-        let rule = nth_of(self.book(), self.rules_at(site), r)?;
-        Ok(Event {
-            rule,
-            first: site,
-            second: None,
-        })
     }
 
     fn nth_toward(&self, site: Site, direction: u32, r: u128) -> Result<Event, u128>
@@ -105,21 +102,9 @@ impl<L: Lattice> World<L> {
         ensures { Picked (rate_of self.now.surface) (events_toward (enabled_test nat_eq self.now.surface self.now.names) (length self.now.surface.rules) site (neighbour self.now.surface.grid site direction)) r result }
     {
         match self.grid().neighbour(site, direction) {
-            Some(second) => self.nth_between(site, second, r),
+            Some(second) => self.nth_of(self.rules_between(site, second), site, Some(second), r),
             None => Err(r),
         }
-    }
-
-    fn nth_between(&self, first: Site, second: Site, r: u128) -> Result<Event, u128>
-        requires { Adjacent self.now.surface.grid first second }
-        ensures { Picked (rate_of self.now.surface) (events_on (enabled_test nat_eq self.now.surface self.now.names) (length self.now.surface.rules) first (Some second)) r result }
-    {
-        let rule = nth_of(self.book(), self.rules_between(first, second), r)?;
-        Ok(Event {
-            rule,
-            first,
-            second: Some(second),
-        })
     }
 
     /// The choice of this site at which the running sum of rates first exceeds a number:
@@ -129,7 +114,7 @@ impl<L: Lattice> World<L> {
         requires below { r < weight_of self.now.surface self.now.names site }
         ensures { pick (rate_of self.now.surface) (choices_at nat_eq self.now.surface self.now.names site) r ≡ Some result }
     {
-        let mut rest = match self.nth_alone(site, r) {
+        let mut rest = match self.nth_of(self.rules_at(site), site, None, r) {
             Ok(event) => return event,
             Err(rest) => rest,
         };

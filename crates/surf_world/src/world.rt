@@ -27,7 +27,7 @@ impl<L: Lattice> Model for World<L> {
 
     ghost view = { λ w. record { surface = record { grid = L.grid w.grid; rules = map rule_of w.book }; names = w.names.items } };
 
-    ghost invariant = { λ w. (length w.names.items ≡ (L.grid w.grid).width * (L.grid w.grid).height) × (length w.names.items ≤ 33554432) };
+    ghost invariant = { λ w. (length w.names.items ≡ (L.grid w.grid).width * (L.grid w.grid).height) × (length w.names.items ≤ 33554432) × (length w.book ≤ 1048576) };
 }
 
 impl<L: Lattice> World<L> {
@@ -44,6 +44,8 @@ impl<L: Lattice> World<L> {
         ensures { IfOk result (λ w. w ≡ record { surface = record { grid = L.grid grid; rules = map rule_of book }; names = start.items }) }
     {
         let _alloc = alloc;
+        // the book tells how many rules it has at most
+        let _rule_count = book.len();
         Ok(World {
             grid,
             book,
@@ -60,7 +62,8 @@ impl<L: Lattice> World<L> {
 
     /// The rules.
     pub fn book(&self) -> &RuleBook
-        ensures { map rule_of result.now ≡ self.now.surface.rules }
+        ensures rules { map rule_of result.now ≡ self.now.surface.rules }
+        ensures few { length result.now ≤ 1048576 }
     {
         &self.book
     }
