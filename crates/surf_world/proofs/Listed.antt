@@ -3,9 +3,10 @@ use Rattle.std.specs.Prelude.{Contains, ◌↔◌}
 use Rattle.std.specs.List.{filter, flat_map, range_with_len}
 use Rattle.std.proofs.Common.{ℕ, ◌≡◌, ◌+◌, ◌*◌, ◌<◌, ◌≤◌, ◌⊎◌, inl, inr, Bool, true, List, [], ◌∷◌, ◌++◌, length, map, Option, Some, None, slice_get, refl, sym, ◌∙◌, ap, subst, arith}
 use Rattle.std.proofs.lemmas.List.Elements.{Contains-append_left, Contains-append_right, Contains-append_cases}
-use Rattle.std.proofs.lemmas.Option.{slice_get_within}
+use Rattle.std.proofs.lemmas.Option.{slice_get_within, same_Some}
 use Rattle.surf_lattice.specs.declared.site.Site.{Site}
 use Rattle.surf_lattice.specs.Grids.{Grid, IsInside, Adjacent, neighbour, degree, directions, place, site_at, sites}
+use Rattle.surf_lattice.proofs.Neighbours.{adjacent_back}
 use Rattle.surf_world.specs.declared.event.Event.{Event}
 use Rattle.surf_world.specs.Systems.{Rule, Surface, Holds, FitsSecond, Fits, Enabled, Stuck}
 use Rattle.surf_world.specs.Choices.{enabled_test, event_of, events_on, events_toward, events_at, choices_at, choices}
@@ -89,3 +90,17 @@ module _ {N : Type 0} (eq : N → N → Bool) (to : (a b : N) → eq a b ≡ tru
     let k = map_has (site_at S.grid) (range_with_len 0 (S.grid.width * S.grid.height)) m.0 m.1 in
     let below = (range_has 0 (S.grid.width * S.grid.height) k.0 k.1).1 in
     empty_has (choices_at eq S c m.0) e (subst (λ p. choices_at eq S c p ≡ []) k.2 (idle k.0 (omega (arith, below)))) m.2))
+
+-- a rule of one name twice may be used in both orders
+twice_at : {N : Type 0} (g : Grid) (c : List N) (a : N) (p q : Site) (right : Option N) → right ≡ Some a → Holds g c p a → FitsSecond g c p right (Some q) → FitsSecond g c q right (Some p)
+twice_at g c a p q None is h f = absurd f
+twice_at g c a p q (Some b) is h f = (adjacent_back g p q f.0, rw (same_Some b a is) h)
+
+second_holds : {N : Type 0} (g : Grid) (c : List N) (a : N) (p q : Site) (right : Option N) → right ≡ Some a → FitsSecond g c p right (Some q) → Holds g c q a
+second_holds g c a p q None is f = absurd f
+second_holds g c a p q (Some b) is f = rw (sym (same_Some b a is)) f.1
+
+pub both_orders : {N : Type 0} (S : Surface N) (c : List N) (r : Rule N) (k : ℕ) (p q : Site) → slice_get S.rules k ≡ Some r → r.right ≡ Some r.left → Enabled S c (event_of p (Some q) k) → Enabled S c (event_of q (Some p) k)
+both_orders S c r k p q at twice f =
+    let h = subst (Fits S.grid c (event_of p (Some q) k)) at f in
+    subst (Fits S.grid c (event_of q (Some p) k)) (sym at) (h.0, second_holds S.grid c r.left p q r.right twice h.2, twice_at S.grid c r.left p q r.right twice h.1 h.2)

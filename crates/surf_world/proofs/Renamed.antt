@@ -1,18 +1,20 @@
 -- A surface under other names has the same events, choices and runs.
-use Rattle.std.specs.Prelude.{All, IfSome, ◌↔◌}
+use Rattle.std.specs.Prelude.{All, IfSome, ◌↔◌, bytes_eq, nat_lt, ◌-◌, if◌then◌else◌}
 use Rattle.std.specs.List.{filter, flat_map, range_with_len, sum_by}
 use Rattle.std.specs.Option.{option_map, option_map_or}
 use Rattle.std.proofs.Common.{◌≡◌, ℕ, zero, suc, ◌+◌, ◌<◌, ◌≤◌, inl, inr, Bool, true, false, List, [], ◌∷◌, length, set, map, Option, Some, None, slice_get, get_or, refl, sym, ◌∙◌, ap, subst, arith, nat_eq}
 use Rattle.std.proofs.lemmas.Bool.{cases_Bool, false≢true}
 use Rattle.std.proofs.lemmas.List.{length-map}
 use Rattle.std.proofs.lemmas.List.Elements.{All-get_or, All-set}
-use Rattle.std.proofs.lemmas.Option.{slice_get-map, slice_get_within, get_or_from_slice_get, same_Some}
+use Rattle.std.proofs.lemmas.Option.{slice_get-get_or, unwrap_or-slice_get, slice_get-map, slice_get_within, get_or_from_slice_get, same_Some}
 use Rattle.surf_lattice.specs.declared.site.Site.{Site}
 use Rattle.surf_lattice.specs.Grids.{Grid, neighbour, directions, place, sites}
+use Rattle.std.proofs.lemmas.Slice.Eq.{bytes_eq-Decides}
+use Rattle.surf_rules.specs.Names.{text_of, AreDistinct}
 use Rattle.surf_world.specs.declared.event.Event.{Event}
 use Rattle.surf_world.specs.Systems.{Rule, Surface, Holds, FitsSecond, Fits, Enabled, after, with_rule, with_second, IsRun, left_by, Stuck}
 use Rattle.surf_world.specs.Choices.{enabled_test, event_of, events_on, events_toward, events_at, choices_at, choices}
-use Rattle.surf_world.specs.Picks.{rate_at, rate_of}
+use Rattle.surf_world.specs.Picks.{rate_at, rate_of, pick, pick_of}
 use Rattle.surf_world.specs.Renamings.{renamed_rule, renamed, RuleBelow, AreBelow, IsOneToOne}
 use Rattle.surf_world.proofs.Tests.{enabled_to, enabled_from, number_to, number_from}
 use Rattle.surf_world.proofs.Members.{same_filter, same_flat}
@@ -150,3 +152,26 @@ module _ {N : Type 0} (n : ℕ) (f : ℕ → N) (one : IsOneToOne n f) (S : Surf
 
     pub choices_renamed : (c : List ℕ) → AreBelow n S c → choices eq (renamed f S) (map f c) ≡ choices nat_eq S c
     choices_renamed c below = same_flat (choices_at eq (renamed f S) (map f c)) (choices_at nat_eq S c) (sites S.grid) (at_renamed c below)
+
+-- the texts of a list of distinct texts
+pub texts_apart : (ts : List (List ℕ)) → AreDistinct ts → IsOneToOne (length ts) (text_of ts)
+texts_apart ts distinct i j li lj same =
+    let a = slice_get-get_or ts i [] li in
+    let b = slice_get-get_or ts j [] lj in
+    let e : get_or ts j [] ≡ get_or ts i [] = sym (unwrap_or-slice_get ts j []) ∙ sym same ∙ unwrap_or-slice_get ts i [] in
+    distinct i j (get_or ts i []) a (b ∙ ap Some e)
+
+pub bytes_to : (a b : List ℕ) → bytes_eq a b ≡ true → a ≡ b
+bytes_to a b t = (bytes_eq-Decides a b).0 t
+
+pub bytes_from : (a : List ℕ) → bytes_eq a a ≡ true
+bytes_from a = (bytes_eq-Decides a a).1 refl
+
+pub picks_renamed : (f : ℕ → List ℕ) (n : ℕ) (S : Surface ℕ) (c : List ℕ) (r : ℕ) → IsOneToOne n f → AreBelow n S c → pick_of bytes_eq (renamed f S) (map f c) r ≡ pick_of nat_eq S c r
+picks_renamed f n S c r one below =
+    ap (λ es. pick (rate_of (renamed f S)) es r) (choices_renamed n f one S bytes_eq bytes_to bytes_from c below)
+    ∙ same_pick (rate_of (renamed f S)) (rate_of S) (choices nat_eq S c) r (rate_renamed f S)
+  where
+    same_pick : {X : Type 0} (a b : X → ℕ) (xs : List X) (r : ℕ) → ((x : X) → a x ≡ b x) → pick a xs r ≡ pick b xs r
+    same_pick a b [] r same = refl
+    same_pick a b (x ∷ xs) r same = ap (λ n. if nat_lt r n then Some x else pick a xs (r - n)) (same x) ∙ ap (λ o. if nat_lt r (b x) then Some x else o) (same_pick a b xs (r - b x) same)
