@@ -1,6 +1,7 @@
 -- What a list of the values of a partial function holds.
+use Rattle.std.specs.Option.{option_to_list}
 use Rattle.std.specs.List.{filter_map, cons_option, range_with_len, Contains}
-use Rattle.std.proofs.Common.{◌≡◌, ℕ, zero, suc, ◌+◌, ◌<◌, ◌≤◌, ◌⊎◌, List, Option, Some, None, ◌∙◌, ap, inl, inr, arith}
+use Rattle.std.proofs.Common.{◌≡◌, ℕ, zero, suc, ◌+◌, ◌<◌, ◌≤◌, ◌⊎◌, List, [], ◌∷◌, ◌++◌, length, length-append, refl, Option, Some, None, ◌∙◌, ap, inl, inr, arith}
 use Rattle.std.proofs.lemmas.Bool.{cases_eq}
 
 some_is : {Y : Type 0} (a b : Y) → Some a ≡ Some b → a ≡ b
@@ -43,3 +44,24 @@ from_listed f a (suc n) i y low high e = elim (cases_eq a i) [
   | inl same ↦ in_first (f a) (filter_map f (range_with_len (a + 1) n)) y (ap f same ∙ e)
   | inr other ↦ in_rest (f a) (filter_map f (range_with_len (a + 1) n)) y (from_listed f (a + 1) n i y (omega arith) (omega arith) e)
 ]
+
+one : {Y : Type 0} (o : Option Y) → cons_option o [] ≡ option_to_list o
+one None = refl
+one (Some y) = refl
+
+cons_append : {Y : Type 0} (o : Option Y) (ys bs cs : List Y) → ys ≡ bs ++ cs → cons_option o ys ≡ cons_option o bs ++ cs
+cons_append None ys bs cs e = e
+cons_append (Some y) ys bs cs e = ap (λ v. y ∷ v) e
+
+-- one number more
+pub found_more : {Y : Type 0} (f : ℕ → Option Y) (a n j : ℕ) → a + n ≡ j → filter_map f (range_with_len a (suc n)) ≡ filter_map f (range_with_len a n) ++ option_to_list (f j)
+found_more f a zero j e = one (f a) ∙ ap (λ i. option_to_list (f i)) (let s : a ≡ j = omega (arith, e) in s)
+found_more f a (suc n) j e = cons_append (f a) (filter_map f (range_with_len (a + 1) (suc n))) (filter_map f (range_with_len (a + 1) n)) (option_to_list (f j)) (found_more f (a + 1) n j (omega (arith, e)))
+
+length_option : {Y : Type 0} (o : Option Y) → length (option_to_list o) ≤ 1
+length_option None = omega arith
+length_option (Some y) = omega arith
+
+-- no more found than numbers were tried
+pub few_more : {Y : Type 0} (old new : List Y) (o : Option Y) → new ≡ old ++ option_to_list o → (d : ℕ) → length old ≤ d → length new ≤ d + 1
+few_more old new o e d le = omega (arith, ap length e, length-append old (option_to_list o), length_option o, le)

@@ -44,6 +44,10 @@ wrapped side x shift h two = elim (cases_eq (x + shift) 0) [
   ]
 ]
 
+-- back from the first place is the last
+pub moved_round : (side x shift : ℕ) → x < side → x ≡ 0 → shift ≡ 0 → moved true side x shift ≡ Some (side - 1)
+moved_round side x shift h first none = moves_moved true side x shift (side - 1) h (omega (arith, none)) (record { lands = omega (arith, h); by = inr (inl (refl, omega (arith, h, first, none))) })
+
 some_is : (a b : ℕ) → Some a ≡ Some b → a ≡ b
 some_is a b e = cc
 

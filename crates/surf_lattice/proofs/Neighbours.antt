@@ -92,6 +92,10 @@ one_direction g is p q i j inside a b e f =
     let y : shift_y i ≡ shift_y j = same_shift g.wrap g.height p.y (shift_y i) (shift_y j) q.y (long_y g is) (shift_y_small i) (shift_y_small j) s.down t.down in
     same_direction i j (below_six g.kind i a) (below_six g.kind j b) (omega (arith, x, y))
 
+-- other directions, other sites
+pub neighbours_apart : (g : Grid) → IsGrid g → (p q r : Site) (i j : ℕ) → IsInside g p → i < degree g.kind → j < degree g.kind → i ≢ j → neighbour g p i ≡ Some q → neighbour g p j ≡ Some r → q ≢ r
+neighbours_apart g is p q r i j inside a b other e f same = other (one_direction g is p q i j inside a b e (f ∙ ap Some (sym same)))
+
 -- the listed neighbours are the adjacent sites
 pub listed_adjacent : (g : Grid) (p q : Site) → IsInside g p → Contains (neighbours g p) q → Adjacent g p q
 listed_adjacent g p q inside c =
