@@ -1,0 +1,9 @@
+pub mod Bytes
+pub mod Line
+pub mod Item
+pub mod Grammar
+pub mod Steps
+pub mod Limits
+pub mod WellFormed
+pub mod Answers
+pub mod Numbered
