@@ -1,3 +1,6 @@
 pub mod StepLemmas
 pub mod WellFormed
 pub mod Good
+pub mod LinesLemmas
+pub mod Cuts
+pub mod Values

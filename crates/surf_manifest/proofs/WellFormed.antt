@@ -10,9 +10,10 @@ use Rattle.surf_manifest.specs.declared.error.ManifestError.TheVariants.{BadLine
 use Rattle.surf_lattice.specs.declared.site.GridKind.TheVariants.{Square, Hex}
 use Rattle.surf_manifest.specs.Bytes.{is_blank, is_filled, is_word, tokens_of, without_front, without_end, unless_last, trimmed, before, after, lacks}
 use Rattle.surf_manifest.specs.Line.{Line, Skipped, Opens, Closes, Includes, Unknown, Content, is_comment_sign, is_include, mark_of, line_of_text, line_of}
-use Rattle.surf_manifest.specs.Item.{Item, Geometry, Wrap, Kept, Rule, Row, Colour, is_name, item_of, option_from, setting_of, geometry_of, wrap_of, bracketed_rule, rated_rule, rule_from, rate_of, one_test, two_test}
+use Rattle.surf_manifest.specs.Item.{Item, Geometry, Wrap, Kept, Rule, Row, Colour, is_name, item_of, option_from, setting_of, geometry_of, wrap_of, bracketed_rule, rated_rule, rule_of_tokens, rule_found, rule_from, rate_of, one_test, two_test}
 use Rattle.surf_manifest.specs.WellFormed.{begins_content, is_text, is_option, is_colour, is_rule}
 use Rattle.surf_manifest.specs.declared.line.BlockKind.{BlockKind}
+use Rattle.surf_world.specs.Systems as systems
 use Rattle.surf_manifest.specs.declared.line.BlockKind.TheVariants.{Rules, State, Colormap}
 
 pub both : (a b : Bool) → a ≡ true → b ≡ true → (a && b) ≡ true
@@ -200,17 +201,36 @@ names_two a b c d h =
     let r = and_parts (is_name c) (is_name d) q.1 in
     both (is_name a) (is_name c && (is_name b && is_name d)) p.0 (both (is_name c) (is_name b && is_name d) r.0 (both (is_name b) (is_name d) q.0 r.1))
 
+abbrev RuleHolds : Option (systems.Rule (List ℕ)) → Type 0
+RuleHolds None = Unit {0}
+RuleHolds (Some r) = is_rule r ≡ true
+
+if_rule : (b : Bool) (r : systems.Rule (List ℕ)) → (b ≡ true → is_rule r ≡ true) → RuleHolds (if b then Some r else None)
+if_rule true r h = h refl
+if_rule false r h = tt
+
+tokens_hold : (rate : ℕ) (ts : List (List ℕ)) → rate ≤ 1000000000000 → RuleHolds (rule_of_tokens rate ts)
+tokens_hold rate [] le = tt
+tokens_hold rate (a ∷ []) le = tt
+tokens_hold rate (a ∷ b ∷ []) le = tt
+tokens_hold rate (a ∷ arrow ∷ c ∷ []) le =
+    if_rule (one_test a arrow c) _
+    (λ e. both _ _ (le-leb rate 1000000000000 le) (names_one a c (and_parts (bytes_eq arrow (codes "->")) (is_name a && is_name c) e).1))
+tokens_hold rate (a ∷ b ∷ c ∷ d ∷ []) le = tt
+tokens_hold rate (a ∷ b ∷ c ∷ d ∷ e ∷ []) le = tt
+tokens_hold rate (a ∷ b ∷ c ∷ d ∷ e ∷ f ∷ []) le = tt
+tokens_hold rate (a ∷ plus ∷ b ∷ arrow ∷ c ∷ also ∷ d ∷ []) le =
+    if_rule (two_test a plus b arrow c also d) _
+    (λ e. both _ _ (le-leb rate 1000000000000 le)
+    (names_two a b c d (and_parts (bytes_eq plus (codes "+") && (bytes_eq arrow (codes "->") && bytes_eq also (codes "+"))) (is_name a && (is_name b && (is_name c && is_name d))) e).1))
+tokens_hold rate (a ∷ b ∷ c ∷ d ∷ e ∷ f ∷ g ∷ h ∷ ts) le = tt
+
+found_holds : (n : ℕ) (o : Option (systems.Rule (List ℕ))) → RuleHolds o → ResultHeld (rule_found n o)
+found_holds n None h = record { is = tt }
+found_holds n (Some r) h = record { is = h }
+
 rule_holds : (n rate : ℕ) (ts : List (List ℕ)) → rate ≤ 1000000000000 → ResultHeld (rule_from n rate ts)
-rule_holds n rate [] le = record { is = tt }
-rule_holds n rate (a ∷ []) le = record { is = tt }
-rule_holds n rate (a ∷ b ∷ []) le = record { is = tt }
-rule_holds n rate (a ∷ arrow ∷ c ∷ []) le = if_holds (one_test a arrow c) _ _ (λ e. record { is = both _ _ (le-leb rate 1000000000000 le) (names_one a c (and_parts (bytes_eq arrow (codes "->")) (is_name a && is_name c) e).1) }) (λ _. record { is = tt })
-rule_holds n rate (a ∷ b ∷ c ∷ d ∷ []) le = record { is = tt }
-rule_holds n rate (a ∷ b ∷ c ∷ d ∷ e ∷ []) le = record { is = tt }
-rule_holds n rate (a ∷ b ∷ c ∷ d ∷ e ∷ f ∷ []) le = record { is = tt }
-rule_holds n rate (a ∷ plus ∷ b ∷ arrow ∷ c ∷ also ∷ d ∷ []) le =
-    if_holds (two_test a plus b arrow c also d) _ _ (λ e. record { is = both _ _ (le-leb rate 1000000000000 le) (names_two a b c d (and_parts (bytes_eq plus (codes "+") && (bytes_eq arrow (codes "->") && bytes_eq also (codes "+"))) (is_name a && (is_name b && (is_name c && is_name d))) e).1) }) (λ _. record { is = tt })
-rule_holds n rate (a ∷ b ∷ c ∷ d ∷ e ∷ f ∷ g ∷ h ∷ ts) le = record { is = tt }
+rule_holds n rate ts le = found_holds n (rule_of_tokens rate ts) (tokens_hold rate ts le)
 
 rated_holds : (n : ℕ) (o : Option ℕ) (ts : List (List ℕ)) → RateHolds o → ResultHeld (rated_rule n o ts)
 rated_holds n None ts h = record { is = tt }

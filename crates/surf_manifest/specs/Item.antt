@@ -92,12 +92,23 @@ two_test a plus b arrow c also d =
     && (is_name a && (is_name b && (is_name c && is_name d)))
 
 -- A -> C or A + B -> C + D
+abbrev pub rule_of_tokens : ℕ → List (List ℕ) → Option (systems.Rule (List ℕ))
+rule_of_tokens rate (a ∷ arrow ∷ c ∷ []) =
+    if one_test a arrow c
+    then Some (record { rate = rate; left = a; right = None; left_after = c; right_after = None })
+    else None
+rule_of_tokens rate (a ∷ plus ∷ b ∷ arrow ∷ c ∷ also ∷ d ∷ []) =
+    if two_test a plus b arrow c also d
+    then Some (record { rate = rate; left = a; right = Some b; left_after = c; right_after = Some d })
+    else None
+rule_of_tokens rate ts = None
+
+abbrev pub rule_found : ℕ → Option (systems.Rule (List ℕ)) → Result Item ManifestError
+rule_found n None = Err (BadRule n)
+rule_found n (Some r) = Ok (Rule r)
+
 abbrev pub rule_from : ℕ → ℕ → List (List ℕ) → Result Item ManifestError
-rule_from n rate (a ∷ arrow ∷ c ∷ []) =
-    if one_test a arrow c then Ok (Rule (record { rate = rate; left = a; right = None; left_after = c; right_after = None })) else Err (BadRule n)
-rule_from n rate (a ∷ plus ∷ b ∷ arrow ∷ c ∷ also ∷ d ∷ []) =
-    if two_test a plus b arrow c also d then Ok (Rule (record { rate = rate; left = a; right = Some b; left_after = c; right_after = Some d })) else Err (BadRule n)
-rule_from n rate ts = Err (BadRule n)
+rule_from n rate ts = rule_found n (rule_of_tokens rate ts)
 
 abbrev pub rated_rule : ℕ → Option ℕ → List (List ℕ) → Result Item ManifestError
 rated_rule n None ts = Err (BadRate n)

@@ -7,3 +7,6 @@ pub mod Limits
 pub mod WellFormed
 pub mod Answers
 pub mod Numbered
+pub mod Kinds
+pub mod Rates
+pub mod Said

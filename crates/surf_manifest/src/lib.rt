@@ -4,7 +4,18 @@
 mod error;
 mod laws;
 mod line;
+mod lines;
+mod option_lines;
+mod rates;
+mod rule_lines;
+mod texts;
+mod words;
 
 pub use error::{Block, ManifestError};
 pub use laws::{read_is_well_formed, steps_are_grammar};
-pub use line::BlockKind;
+pub use line::{BlockKind, LineKind, kind_of};
+pub use lines::{first_line, next_token};
+pub use option_lines::{Setting, option_line};
+pub use rule_lines::{RuleLine, Sides, rule_line};
+pub use texts::{cut, trim};
+pub use words::is_name_token;
