@@ -77,11 +77,11 @@ good_next c Unknown g h f = g
 good_next c (Content t) g h f = good_result c.number c.parts (item_of c.number c.block t) g (item_holds c.number c.block t h.0 h.1).is f
 
 -- what the end asks
-none_if : (b : Bool) (f : ManifestError) (o : Option ManifestError) → (if b then Some f else o) ≡ None → (b ≡ false) × (o ≡ None)
+pub none_if : (b : Bool) (f : ManifestError) (o : Option ManifestError) → (if b then Some f else o) ≡ None → (b ≡ false) × (o ≡ None)
 none_if true f o h = cc
 none_if false f o h = (refl, h)
 
-no_fault : {M : Type 0} (o : Option ManifestError) (r : Result M ManifestError) (m : M) → unless_fault o r ≡ Ok m → (o ≡ None) × (r ≡ Ok m)
+pub no_fault : {M : Type 0} (o : Option ManifestError) (r : Result M ManifestError) (m : M) → unless_fault o r ≡ Ok m → (o ≡ None) × (r ≡ Ok m)
 no_fault None r m h = (refl, h)
 no_fault (Some f) r m h = cc
 

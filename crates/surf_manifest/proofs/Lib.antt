@@ -4,3 +4,4 @@ pub mod Good
 pub mod LinesLemmas
 pub mod Cuts
 pub mod Values
+pub mod LimitLemmas

@@ -5,6 +5,7 @@ use Rattle.surf_lattice.specs.declared.site.GridKind.{GridKind}
 use Rattle.surf_lattice.specs.declared.site.GridKind.TheVariants.{Square}
 use Rattle.surf_world.specs.Systems.{System}
 use Rattle.surf_world.specs.Systems as systems
+use Rattle.surf_manifest.specs.declared.options.OptionLine.{OptionLine}
 use Rattle.surf_manifest.specs.declared.error.ManifestError.{ManifestError}
 use Rattle.surf_manifest.specs.declared.error.ManifestError.TheVariants as faults
 use Rattle.surf_manifest.specs.declared.error.Block.TheVariants as blocks
@@ -12,12 +13,12 @@ use Rattle.surf_manifest.specs.Bytes.{lines_of}
 use Rattle.surf_manifest.specs.declared.line.BlockKind.{BlockKind}
 use Rattle.surf_manifest.specs.declared.line.BlockKind.TheVariants.{Rules, State, Colormap}
 use Rattle.surf_manifest.specs.Line.{is_block, Line, Skipped, Opens, Closes, Includes, Unknown, Content, line_of}
-use Rattle.surf_manifest.specs.Item.{OptionText, Item, Geometry, Wrap, Kept, Rule, Row, Colour, item_of}
+use Rattle.surf_manifest.specs.Item.{Item, Geometry, Wrap, Kept, Rule, Row, Colour, item_of}
 
 -- a system with the options that are kept and the lines of its colormap
 pub record ManifestText : Type 0 where
   pub system : System (List ℕ)
-  pub options : List OptionText
+  pub options : List OptionLine
   pub colormap : Option (List (List ℕ))
 
 -- Below, `above` is a list of lines from the nearest to the first.
@@ -93,7 +94,7 @@ wrap_in b (Rule r ∷ is) = wrap_in b is
 wrap_in b (Row names ∷ is) = wrap_in b is
 wrap_in b (Colour t ∷ is) = wrap_in b is
 
-abbrev pub kept_in : Item → Option OptionText
+abbrev pub kept_in : Item → Option OptionLine
 kept_in (Kept o) = Some o
 kept_in (Geometry k) = None
 kept_in (Wrap b) = None
@@ -139,7 +140,7 @@ joined (r ∷ rs) = r ++ joined rs
 pub record Parts : Type 0 where
   pub kind : GridKind
   pub wrap : Bool
-  pub options : List OptionText
+  pub options : List OptionLine
   pub rules : List (systems.Rule (List ℕ))
   pub width : ℕ
   pub height : ℕ

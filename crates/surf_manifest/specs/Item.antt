@@ -7,6 +7,7 @@ use Rattle.surf_base.specs.Decimal.{value_from}
 use Rattle.surf_lattice.specs.declared.site.GridKind.{GridKind}
 use Rattle.surf_lattice.specs.declared.site.GridKind.TheVariants.{Square, Hex}
 use Rattle.surf_world.specs.Systems as systems
+use Rattle.surf_manifest.specs.declared.options.OptionLine.{OptionLine}
 use Rattle.surf_manifest.specs.declared.error.ManifestError.{ManifestError}
 use Rattle.surf_manifest.specs.declared.error.ManifestError.TheVariants.{BadLine, BadRule, BadRate, BadOption}
 use Rattle.surf_manifest.specs.Bytes.{tokens_of, trimmed, before, after, is_plain, is_word, is_digits}
@@ -14,14 +15,10 @@ use Rattle.surf_manifest.specs.declared.line.BlockKind.{BlockKind}
 use Rattle.surf_manifest.specs.declared.line.BlockKind.TheVariants.{Rules, State, Colormap}
 use Rattle.surf_manifest.specs.Line.{is_comment_sign}
 
-pub record OptionText : Type 0 where
-  pub key : List ℕ
-  pub value : List ℕ
-
 pub data Item : Type 0 where
   Geometry : GridKind → Item
   Wrap : Bool → Item
-  Kept : OptionText → Item
+  Kept : OptionLine → Item
   Rule : systems.Rule (List ℕ) → Item
   Row : List (List ℕ) → Item
   Colour : List ℕ → Item

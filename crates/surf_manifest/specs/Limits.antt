@@ -3,19 +3,20 @@ use Rattle.std.specs.Prelude.{ℕ, ◌+◌, ◌≡◌, Bool, false, not, ◌&&�
 use Rattle.surf_lattice.specs.declared.site.GridKind.{GridKind}
 use Rattle.surf_lattice.specs.declared.site.GridKind.TheVariants.{Square}
 use Rattle.surf_world.specs.Systems as systems
+use Rattle.surf_manifest.specs.declared.options.OptionLine.{OptionLine}
 use Rattle.surf_manifest.specs.declared.error.ManifestError.{ManifestError}
 use Rattle.surf_manifest.specs.declared.error.ManifestError.TheVariants as faults
 use Rattle.surf_manifest.specs.declared.error.Block.TheVariants as blocks
 use Rattle.surf_manifest.specs.declared.line.BlockKind.{BlockKind}
 use Rattle.surf_manifest.specs.declared.line.BlockKind.TheVariants.{Rules, State, Colormap}
 use Rattle.surf_manifest.specs.Line.{is_block, Line, Skipped, Opens, Closes, Includes, Unknown, Content}
-use Rattle.surf_manifest.specs.Item.{OptionText, Item, Geometry, Wrap, Kept, Rule, Row, Colour, item_of}
-use Rattle.surf_manifest.specs.Grammar.{ManifestText, Parts, Known, line_fault, manifest_from, unless_fault}
+use Rattle.surf_manifest.specs.Item.{Item, Geometry, Wrap, Kept, Rule, Row, Colour, item_of}
+use Rattle.surf_manifest.specs.Grammar.{ManifestText, Parts, Known, item_fault, line_fault, manifest_from, unless_fault}
 
 pub record Held : Type 0 where
   pub kind : GridKind
   pub wrap : Bool
-  pub options : List OptionText
+  pub options : List OptionLine
   pub rules : List (systems.Rule (List ℕ))
   pub rule_count : ℕ
   pub width : ℕ
@@ -144,3 +145,30 @@ finished s = unless_fault (end_fault s s.held) (Ok (manifest_from s.has_colours 
 abbrev pub read_on : Reached → List Line → Result ManifestText ManifestError
 read_on s [] = finished s
 read_on s (l ∷ ls) = unless_fault (line_fault (known_by s) l) (read_on (after_line s l) ls)
+
+-- nothing is read so far
+abbrev pub at_start : Reached
+at_start = record {
+  number = 1;
+  block = None;
+  opened = 0;
+  has_rules = false;
+  has_state = false;
+  has_colours = false;
+  held = record {
+    kind = Square;
+    wrap = false;
+    options = [];
+    rules = [];
+    rule_count = 0;
+    width = 0;
+    height = 0;
+    start = [];
+    site_count = 0;
+    colours = [];
+  };
+}
+
+-- what is held after an item, or its fault
+abbrev pub item_step : ℕ → Held → Result Item ManifestError → Result Held ManifestError
+item_step n h r = unless_fault (item_fault n (parts_held h) r) (Ok (holding_result h r))

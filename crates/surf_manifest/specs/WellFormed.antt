@@ -3,9 +3,10 @@ use Rattle.std.specs.Prelude.{ℕ, ◌*◌, ◌≤◌, ◌≡◌, Bool, true, fa
 use Rattle.std.specs.List.{list_all}
 use Rattle.std.specs.Str.{bytes_eq}
 use Rattle.surf_world.specs.Systems as systems
+use Rattle.surf_manifest.specs.declared.options.OptionLine.{OptionLine}
 use Rattle.surf_manifest.specs.Bytes.{without_front, without_end, is_blank, is_word, lacks}
 use Rattle.surf_manifest.specs.Line.{is_comment_sign}
-use Rattle.surf_manifest.specs.Item.{OptionText, is_name}
+use Rattle.surf_manifest.specs.Item.{is_name}
 use Rattle.surf_manifest.specs.Grammar.{ManifestText, manifest_of}
 
 -- a text as a line has it: with no blank at its ends and no line feed
@@ -19,7 +20,7 @@ begins_content [] = false
 begins_content (b ∷ bs) = not (is_comment_sign b || (b == 33))
 
 -- a key and a value that the grammar keeps of a line
-abbrev pub is_option : OptionText → Bool
+abbrev pub is_option : OptionLine → Bool
 is_option o =
     (is_word o.key && (begins_content o.key && lacks 61 o.key))
     && (not (bytes_eq o.key (codes "geometry")) && (not (bytes_eq o.key (codes "wrap")) && is_text o.value))
