@@ -1,1 +1,5 @@
 pub mod Grids
+pub mod Shifts
+pub mod Shapes
+pub mod AnyGrid
+pub mod Laws

@@ -1,0 +1,4 @@
+pub mod Moves
+pub mod Listing
+pub mod Neighbours
+pub mod Colours
