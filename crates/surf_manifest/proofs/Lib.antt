@@ -5,3 +5,5 @@ pub mod LinesLemmas
 pub mod Cuts
 pub mod Values
 pub mod LimitLemmas
+pub mod Growth
+pub mod DraftLemmas

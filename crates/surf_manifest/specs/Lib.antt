@@ -10,3 +10,4 @@ pub mod Numbered
 pub mod Kinds
 pub mod Rates
 pub mod Said
+pub mod Drafts

@@ -1,17 +1,21 @@
 //! The grammar of manifests: what a text means, or its first fault.
 #![tactic(auto)]
 
+mod draft;
 mod error;
 mod laws;
 mod line;
 mod lines;
 mod options;
+mod numbering;
 mod option_lines;
 mod rates;
+mod rows;
 mod rule_lines;
 mod texts;
 mod words;
 
+pub use draft::Draft;
 pub use error::{Block, ManifestError};
 pub use laws::{read_is_well_formed, steps_are_grammar};
 pub use line::{BlockKind, LineKind, kind_of};
