@@ -7,3 +7,4 @@ pub mod Values
 pub mod LimitLemmas
 pub mod Growth
 pub mod DraftLemmas
+pub mod RowLemmas
