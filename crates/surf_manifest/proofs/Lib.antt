@@ -8,3 +8,4 @@ pub mod LimitLemmas
 pub mod Growth
 pub mod DraftLemmas
 pub mod RowLemmas
+pub mod ReadingLemmas

@@ -57,7 +57,7 @@ front_end : (p : ℕ → Bool) (xs : List ℕ) → without_front p (without_end 
 front_end p [] = refl
 front_end p (x ∷ xs) = ⊎_elim (λ z. rw z (front_end p xs)) (λ z. rw z (front_last p x (without_end p xs) z)) (cases_Bool (p x))
 
-front_shorter : (p : ℕ → Bool) (xs : List ℕ) → length (without_front p xs) ≤ length xs
+pub front_shorter : (p : ℕ → Bool) (xs : List ℕ) → length (without_front p xs) ≤ length xs
 front_shorter p [] = omega arith
 front_shorter p (x ∷ xs) = ⊎_elim (λ z. rw z (omega (arith, front_shorter p xs))) (λ z. rw z (omega arith)) (cases_Bool (p x))
 

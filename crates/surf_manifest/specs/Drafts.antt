@@ -1,5 +1,5 @@
 -- What a draft stands for. Its rules and its start are numbers of its names.
-use Rattle.std.specs.Prelude.{◌≡◌, ℕ, ◌+◌, ◌*◌, ◌<◌, ◌≤◌, List, length, map, All, slice_get}
+use Rattle.std.specs.Prelude.{◌≡◌, ℕ, ◌+◌, ◌*◌, ◌^◌, ◌<◌, ◌≤◌, List, length, map, All, slice_get}
 use Rattle.surf_rules.specs.Names.{text_of}
 use Rattle.surf_rules.specs.declared.rule.Rule.{Rule}
 use Rattle.surf_world.specs.Renamings.{renamed_rule, RuleBelow}
@@ -7,6 +7,7 @@ use Rattle.surf_world.specs.Systems as systems
 use Rattle.surf_world.specs.Worlds.{rule_of}
 use Rattle.surf_manifest.specs.declared.draft.Draft.{Draft}
 use Rattle.surf_manifest.specs.Limits.{Held}
+use Rattle.surf_manifest.specs.Line.{Line, Skipped, Opens, Closes, Includes, Unknown, Content}
 
 -- a list of texts became at most n texts longer, and keeps those that it had
 pub record IsGrown (n : ℕ) (old new : List (List ℕ)) : Type 0 where
@@ -45,3 +46,18 @@ pub record IsDraft (d : Draft) : Type 0 where
   pub few_rules : length d.rules.items ≤ 1048576
   pub few_sites : length d.start.items ≤ 33554432
   pub few_names : length d.names ≤ 4 * length d.rules.items + length d.start.items
+
+-- the counts can take a line of so many bytes
+pub record HasRoom (h : Held) (bytes : ℕ) : Type 0 where
+  pub rules : h.rule_count < 2 ^ 63
+  pub rows : h.height < 2 ^ 63
+  pub sites : h.site_count + bytes < 2 ^ 63
+
+-- the counts can take this line
+abbrev pub HasRoomFor : Held → Line → Type 0
+HasRoomFor h (Content t) = HasRoom h (length t)
+HasRoomFor h (Opens p) = Unit {0}
+HasRoomFor h (Closes p) = Unit {0}
+HasRoomFor h Skipped = Unit {0}
+HasRoomFor h Includes = Unit {0}
+HasRoomFor h Unknown = Unit {0}

@@ -180,14 +180,14 @@ known above = record {
   parts = parts_of (items above);
 }
 
-abbrev pub has_part : Known → BlockKind → Bool
-has_part c Rules = c.has_rules
-has_part c State = c.has_state
-has_part c Colormap = c.has_colours
+abbrev pub has_block : Known → BlockKind → Bool
+has_block c Rules = c.has_rules
+has_block c State = c.has_state
+has_block c Colormap = c.has_colours
 
 -- a block is opened outside of blocks, and once
 abbrev pub open_fault : Known → BlockKind → Option BlockKind → Option ManifestError
-open_fault c p None = if has_part c p then Some (faults.BlockTwice c.number) else None
+open_fault c p None = if has_block c p then Some (faults.BlockTwice c.number) else None
 open_fault c p (Some q) = Some (faults.BadLine c.number)
 
 -- a block is closed by its own end

@@ -11,3 +11,4 @@ pub mod Kinds
 pub mod Rates
 pub mod Said
 pub mod Drafts
+pub mod Readings

@@ -107,20 +107,26 @@ known_by s = record {
   parts = parts_held s.held;
 }
 
-abbrev pub after_line : Reached → Line → Reached
-after_line s Skipped = record s { number = s.number + 1 }
-after_line s (Opens p) = record s {
-  number = s.number + 1;
+abbrev pub opened_block : Reached → BlockKind → Reached
+opened_block s p = record s {
   block = Some p;
   opened = s.number;
   has_rules = is_block Rules p || s.has_rules;
   has_state = is_block State p || s.has_state;
   has_colours = is_block Colormap p || s.has_colours;
 }
-after_line s (Closes p) = record s { number = s.number + 1; block = None }
-after_line s Includes = record s { number = s.number + 1 }
-after_line s Unknown = record s { number = s.number + 1 }
-after_line s (Content t) = record s { number = s.number + 1; held = holding_result s.held (item_of s.number s.block t) }
+
+-- one line more is counted
+abbrev pub counted : Reached → Reached
+counted s = record s { number = s.number + 1 }
+
+abbrev pub after_line : Reached → Line → Reached
+after_line s Skipped = counted s
+after_line s (Opens p) = counted (opened_block s p)
+after_line s (Closes p) = counted (record s { block = None })
+after_line s Includes = counted s
+after_line s Unknown = counted s
+after_line s (Content t) = counted (record s { held = holding_result s.held (item_of s.number s.block t) })
 
 -- the step of one line
 abbrev pub line_step : Reached → Line → Result Reached ManifestError

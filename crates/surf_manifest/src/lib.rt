@@ -11,6 +11,7 @@ mod numbering;
 mod option_lines;
 mod rates;
 mod rows;
+mod reading;
 mod rule_lines;
 mod texts;
 mod words;
