@@ -1,1 +1,5 @@
 pub mod TextLemmas
+pub mod Cuts
+pub mod Sorts
+pub mod Sides
+pub mod Lists

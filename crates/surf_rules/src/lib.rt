@@ -5,8 +5,11 @@
 //! rules of rate above 0 with that left side, rising.
 #![tactic(auto)]
 
+mod book;
+mod index;
 mod names;
 mod rule;
 
+pub use book::RuleBook;
 pub use names::Names;
 pub use rule::Rule;
