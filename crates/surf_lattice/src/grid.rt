@@ -19,15 +19,12 @@ impl Grid {
     /// `Empty` exactly where a side is 0; `WrapSize` exactly where no side is 0, the sides are to
     /// be joined and one is below 3.
     pub fn new(kind: GridKind, wrap: bool, width: u32, height: u32) -> Result<Grid, GridError>
-        ensures grid {
-            IfOk result (λ g. grid_of g ≡ record { kind = kind; wrap = wrap; width = width; height = height })
-        }
+        ensures grid { IfOk result (λ g. grid_of g
+            ≡ record { kind = kind; wrap = wrap; width = width; height = height }) }
         ensures sides { IfOk result (λ g. IsGrid (grid_of g)) }
         ensures empty { IsErrOf result GridError.Empty ↔ ((width ≡ 0) ⊎ (height ≡ 0)) }
-        ensures wrap_size {
-            IsErrOf result GridError.WrapSize
-                ↔ ((1 ≤ width) × (1 ≤ height) × (wrap ≡ true) × ((width < 3) ⊎ (height < 3)))
-        }
+        ensures wrap_size { IsErrOf result GridError.WrapSize
+            ↔ ((1 ≤ width) × (1 ≤ height) × (wrap ≡ true) × ((width < 3) ⊎ (height < 3))) }
     {
         if width == 0 || height == 0 {
             return Err(GridError::Empty);

@@ -11,5 +11,4 @@ pub fn grid_laws()
     ensures near { NearDiffer }
     ensures coloured { NeighboursColoured }
     ensures directions { DirectionsDiffer }
-{
-}
+{}

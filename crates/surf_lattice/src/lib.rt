@@ -24,3 +24,6 @@ pub use laws::grid_laws;
 pub use site::{GridKind, Site};
 pub use square::Square;
 pub use torus::Torus;
+
+#[cfg(test)]
+mod tests;

@@ -4,9 +4,9 @@ ghost use Rattle.surf_lattice.specs.Shifts.{shift_of};
 
 use crate::Site;
 
-/// What a direction does to a coordinate.
+// What a direction does to a coordinate.
 #[derive(Clone, Copy)]
-pub enum Shift {
+enum Shift {
     Back,
     Stay,
     Ahead,
@@ -59,10 +59,8 @@ fn joined(shift: Shift, x: u32, side: u32) -> u32
 pub fn plain_neighbour(width: u32, height: u32, site: Site, direction: u32) -> Option<Site>
     requires x { site.x < width }
     requires y { site.y < height }
-    ensures {
-        result ≡ site_from (moved false width site.x (shift_x direction))
-            (moved false height site.y (shift_y direction))
-    }
+    ensures { result ≡ site_from (moved false width site.x (shift_x direction))
+        (moved false height site.y (shift_y direction)) }
 {
     let (across, down) = shifts(direction);
     let x = plain(across, site.x, width)?;
@@ -74,10 +72,8 @@ pub fn plain_neighbour(width: u32, height: u32, site: Site, direction: u32) -> O
 pub fn joined_neighbour(width: u32, height: u32, site: Site, direction: u32) -> Site
     requires x { site.x < width }
     requires y { site.y < height }
-    ensures {
-        site_from (moved true width site.x (shift_x direction))
-            (moved true height site.y (shift_y direction)) ≡ Some result
-    }
+    ensures { site_from (moved true width site.x (shift_x direction))
+        (moved true height site.y (shift_y direction)) ≡ Some result }
 {
     let (across, down) = shifts(direction);
     Site {

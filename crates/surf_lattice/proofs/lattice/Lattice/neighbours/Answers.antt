@@ -1,4 +1,4 @@
-use Rattle.std.proofs.Common.{rules, arith, ℕ, ◌∙◌, ap, sym, refl, ◌++◌, ◌≡◌, ◌+◌, suc, List}
+use Rattle.std.proofs.Common.{rules, arith, ℕ, ◌∙◌, ap, sym, ◌++◌, ◌≡◌, ◌+◌, suc, List}
 use Rattle.std.specs.Option.{option_to_list}
 use Rattle.std.specs.List.{filter_map, range_with_len}
 use Rattle.surf_lattice.specs.declared.site.Site.{Site}

@@ -1,0 +1,3 @@
+pub mod Finds
+pub mod Draws
+pub mod Trees
