@@ -1,8 +1,8 @@
 -- Rates, the choice of a number, and the weights of sites.
-use Rattle.std.specs.Prelude.{ℕ, ◌+◌, ◌-◌, ◌≡◌, nat_lt, nat_eq, Bool, List, [], ◌∷◌, map, sum_by, Option, Some, None, slice_get, Result, Ok, Err, if◌then◌else◌}
-use Rattle.std.specs.Option.{option_map_or}
+use Rattle.std.specs.Prelude.{ℕ, ◌+◌, ◌-◌, ◌≡◌, nat_lt, nat_eq, Bool, List, [], ◌∷◌, ◌++◌, map, flat_map, sum_by, Option, Some, None, slice_get, slice_set, Result, Ok, Err, if◌then◌else◌}
+use Rattle.std.specs.Option.{option_map_or, option_to_list}
 use Rattle.surf_lattice.specs.declared.site.Site.{Site}
-use Rattle.surf_lattice.specs.Grids.{sites}
+use Rattle.surf_lattice.specs.Grids.{Grid, neighbours, place, sites}
 use Rattle.surf_world.specs.declared.event.Event.{Event}
 use Rattle.surf_world.specs.Systems.{Rule, Surface}
 use Rattle.surf_world.specs.Worlds.{Placed}
@@ -36,3 +36,16 @@ weights_of w = map (weight_of w.surface w.names) (sites w.surface.grid)
 abbrev pub Picked : {X : Type 0} → (X → ℕ) → List X → ℕ → Result X ℕ → Type 0
 Picked rate xs r (Ok x) = pick rate xs r ≡ Some x
 Picked rate xs r (Err rest) = sum_by rate xs + rest ≡ r
+
+-- a site and its neighbours
+abbrev pub around : Grid → Site → List Site
+around g p = p ∷ neighbours g p
+
+-- the sites of an event and their neighbours
+abbrev pub around_event : Grid → Event → List Site
+around_event g e = around g e.first ++ flat_map (around g) (option_to_list e.second)
+
+-- the weights after each of these sites got its weight anew
+abbrev pub refreshed : Surface ℕ → List ℕ → List Site → List ℕ → List ℕ
+refreshed S c [] ws = ws
+refreshed S c (p ∷ ps) ws = refreshed S c ps (slice_set ws (place S.grid p) (weight_of S c p))

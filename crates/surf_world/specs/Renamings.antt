@@ -1,5 +1,5 @@
 -- The same rules, surface and system under other names.
-use Rattle.std.specs.Prelude.{ℕ, ◌<◌, List, map, All, IfSome}
+use Rattle.std.specs.Prelude.{◌≡◌, ℕ, ◌<◌, List, map, All, IfSome}
 use Rattle.std.specs.Option.{option_map}
 use Rattle.surf_world.specs.Systems.{Rule, Surface, System}
 
@@ -29,3 +29,7 @@ pub record RuleBelow (n : ℕ) (r : Rule ℕ) : Type 0 where
 pub record AreBelow (n : ℕ) (S : Surface ℕ) (c : List ℕ) : Type 0 where
   pub in_rules : All (RuleBelow n) S.rules
   pub in_names : All (λ k. k < n) c
+
+-- no two numbers below n have one name
+abbrev pub IsOneToOne : {N : Type 0} → ℕ → (ℕ → N) → Type 0
+IsOneToOne n f = (i j : ℕ) → i < n → j < n → f i ≡ f j → i ≡ j

@@ -1,0 +1,11 @@
+pub mod Tests
+pub mod Laws
+pub mod Members
+pub mod Places
+pub mod Listed
+pub mod Local
+pub mod Around
+pub mod Chosen
+pub mod Agree
+pub mod Renamed
+pub mod Sums

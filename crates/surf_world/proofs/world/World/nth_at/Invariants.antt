@@ -1,0 +1,11 @@
+use Rattle.std.proofs.Common.{◌≡◌, ◌+◌, None, length, flat_map, nat_eq, sum_by}
+use Rattle.std.specs.List.{range_with_len}
+use Rattle.surf_lattice.specs.Grids.{neighbour}
+use Rattle.surf_world.specs.Choices.{enabled_test, events_on, events_toward}
+use Rattle.surf_world.specs.Picks.{rate_of}
+use Rattle.surf_world.proofs.world.World.nth_at.Given as goal
+
+abbrev pub invariant-loop-direction : goal.invariant-loop-direction
+invariant-loop-direction g l = sum_by (rate_of l.self.surface) (events_on (enabled_test nat_eq l.self.surface l.self.names) (length l.self.surface.rules) l.site None)
+    + sum_by (rate_of l.self.surface) (flat_map (λ i. events_toward (enabled_test nat_eq l.self.surface l.self.names) (length l.self.surface.rules) l.site (neighbour l.self.surface.grid l.site i)) (range_with_len 0 l.direction))
+    + l.rest ≡ l.r

@@ -1,0 +1,168 @@
+ghost use Rattle.std.specs.Prelude.{◌≡◌, ◌↔◌, ◌≤◌, ◌<◌, ◌*◌, IsTrue, Some, None, Ok, Err, [], All, length, map, sum_by, nat_eq};
+ghost use Rattle.surf_lattice.specs.Grids.{IsInside, Adjacent, degree, neighbour};
+ghost use Rattle.surf_world.specs.Systems.{Stuck};
+ghost use Rattle.surf_world.specs.Choices.{enabled_test, event_of, events_on, events_toward, choices_at};
+ghost use Rattle.surf_world.specs.Picks.{rate_at, rate_of, pick, weight_of, Picked};
+
+use crate::{Event, World};
+use surf_lattice::{Lattice, Site};
+
+impl<L: Lattice> World<L> {
+    // The rules that are enabled at this site alone.
+    fn rules_at(&self, site: Site) -> &[u32]
+        requires { IsInside self.now.surface.grid site }
+        ensures events { events_on (enabled_test nat_eq self.now.surface self.now.names) (length self.now.surface.rules) site None ≡ map (event_of site None) result.now }
+        ensures known { All (λ k. k < length self.now.surface.rules) result.now }
+        ensures few { length result.now ≤ 1048576 }
+    {
+        self.book().alone(self.at(site))
+    }
+
+    // The rules that are enabled at these two sites in this order.
+    fn rules_between(&self, first: Site, second: Site) -> &[u32]
+        requires { Adjacent self.now.surface.grid first second }
+        ensures events { events_on (enabled_test nat_eq self.now.surface self.now.names) (length self.now.surface.rules) first (Some second) ≡ map (event_of first (Some second)) result.now }
+        ensures known { All (λ k. k < length self.now.surface.rules) result.now }
+        ensures few { length result.now ≤ 1048576 }
+    {
+        self.book().pair(self.at(first), self.at(second))
+    }
+
+    // The sum of the rates of these rules.
+    fn sum_of(&self, numbers: &[u32]) -> u128
+        requires known { All (λ k. k < length self.now.surface.rules) numbers.now }
+        requires few { length numbers.now ≤ 1048576 }
+        ensures sum { result ≡ sum_by (rate_at self.now.surface.rules) numbers.now }
+        ensures bound { result ≤ 1048576 * 1000000000000 }
+    {
+        let book = self.book();
+        let mut sum = 0;
+        for number in numbers {
+            sum += u128::from(book.rule(*number).rate);
+        }
+        sum
+    }
+
+    // The first event of these rules, at these sites, at which the running sum of rates exceeds
+    // r, or what is left of r behind them.
+    fn nth_of(
+        &self,
+        numbers: &[u32],
+        first: Site,
+        second: Option<Site>,
+        r: u128,
+    ) -> Result<Event, u128>
+        requires { All (λ k. k < length self.now.surface.rules) numbers.now }
+        ensures { Picked (rate_of self.now.surface) (map (event_of first second) numbers.now) r result }
+    {
+        let book = self.book();
+        let mut rest = r;
+        for number in numbers {
+            let rate = u128::from(book.rule(*number).rate);
+            if rest < rate {
+                return Ok(Event {
+                    rule: *number,
+                    first,
+                    second,
+                });
+            }
+            rest -= rate;
+        }
+        Err(rest)
+    }
+
+    fn weight_toward(&self, site: Site, direction: u32) -> u128
+        requires site { IsInside self.now.surface.grid site }
+        requires direction { direction < degree self.now.surface.grid.kind }
+        ensures sum { result ≡ sum_by (rate_of self.now.surface) (events_toward (enabled_test nat_eq self.now.surface self.now.names) (length self.now.surface.rules) site (neighbour self.now.surface.grid site direction)) }
+        ensures bound { result ≤ 1048576 * 1000000000000 }
+    {
+        match self.grid().neighbour(site, direction) {
+            Some(second) => self.sum_of(self.rules_between(site, second)),
+            None => 0,
+        }
+    }
+
+    /// The sum of the rates of the enabled events whose first site is this one, in millionths.
+    pub fn weight_at(&self, site: Site) -> u128
+        requires { IsInside self.now.surface.grid site }
+        ensures sum { result ≡ weight_of self.now.surface self.now.names site }
+        ensures bound { result ≤ 7 * (1048576 * 1000000000000) }
+    {
+        let mut sum = self.sum_of(self.rules_at(site));
+        for direction in 0..self.grid().degree() {
+            sum += self.weight_toward(site, direction);
+        }
+        sum
+    }
+
+    fn nth_toward(&self, site: Site, direction: u32, r: u128) -> Result<Event, u128>
+        requires site { IsInside self.now.surface.grid site }
+        requires direction { direction < degree self.now.surface.grid.kind }
+        ensures { Picked (rate_of self.now.surface) (events_toward (enabled_test nat_eq self.now.surface self.now.names) (length self.now.surface.rules) site (neighbour self.now.surface.grid site direction)) r result }
+    {
+        match self.grid().neighbour(site, direction) {
+            Some(second) => self.nth_of(self.rules_between(site, second), site, Some(second), r),
+            None => Err(r),
+        }
+    }
+
+    /// The choice of this site at which the running sum of rates first exceeds a number:
+    /// rules at the site alone come first, and then the directions in order.
+    pub fn nth_at(&self, site: Site, r: u128) -> Event
+        requires inside { IsInside self.now.surface.grid site }
+        requires below { r < weight_of self.now.surface self.now.names site }
+        ensures { pick (rate_of self.now.surface) (choices_at nat_eq self.now.surface self.now.names site) r ≡ Some result }
+    {
+        let mut rest = match self.nth_of(self.rules_at(site), site, None, r) {
+            Ok(event) => return event,
+            Err(rest) => rest,
+        };
+        for direction in 0..self.grid().degree() {
+            match self.nth_toward(site, direction, rest) {
+                Ok(event) => return event,
+                Err(left) => rest = left,
+            }
+        }
+        unreachable!()
+    }
+
+    fn is_idle_toward(&self, site: Site, direction: u32) -> bool
+        requires site { IsInside self.now.surface.grid site }
+        requires direction { direction < degree self.now.surface.grid.kind }
+        ensures { IsTrue result ↔ (events_toward (enabled_test nat_eq self.now.surface self.now.names) (length self.now.surface.rules) site (neighbour self.now.surface.grid site direction) ≡ []) }
+    {
+        match self.grid().neighbour(site, direction) {
+            Some(second) => self.rules_between(site, second).is_empty(),
+            None => true,
+        }
+    }
+
+    // Whether no enabled event begins at this site.
+    fn is_idle(&self, site: Site) -> bool
+        requires { IsInside self.now.surface.grid site }
+        ensures { IsTrue result ↔ (choices_at nat_eq self.now.surface self.now.names site ≡ []) }
+    {
+        if !self.rules_at(site).is_empty() {
+            return false;
+        }
+        for direction in 0..self.grid().degree() {
+            if !self.is_idle_toward(site, direction) {
+                return false;
+            }
+        }
+        true
+    }
+
+    /// Whether no event is enabled.
+    pub fn is_stuck(&self) -> bool
+        ensures { IsTrue result ↔ Stuck self.now.surface self.now.names }
+    {
+        for place in 0..self.site_count() {
+            if !self.is_idle(self.site_at(place)) {
+                return false;
+            }
+        }
+        true
+    }
+}
