@@ -9,3 +9,4 @@ pub mod Growth
 pub mod DraftLemmas
 pub mod RowLemmas
 pub mod ReadingLemmas
+pub mod Counts

@@ -1,5 +1,5 @@
 // The first line of a text and the first token of a line.
-ghost use Rattle.std.specs.Prelude.{◌≡◌, ◌<◌, ◌≤◌, ◌∷◌, [], false, length, slice_index, IfSome, IfNone};
+ghost use Rattle.std.specs.Prelude.{◌≡◌, ◌+◌, ◌<◌, ◌≤◌, ◌∷◌, [], false, length, slice_index, IfSome, IfNone};
 ghost use Rattle.surf_manifest.specs.Bytes.{lines_of, tokens_of, is_blank};
 
 use crate::texts::is_blank_byte;
@@ -9,7 +9,7 @@ pub fn first_line(text: &[u8]) -> (&[u8], &[u8])
     requires { 0 < length text.now }
     ensures lines { lines_of text.now ≡ result.0.now ∷ lines_of result.1.now }
     ensures shorter { length result.1.now < length text.now }
-    ensures part { length result.0.now ≤ length text.now }
+    ensures part { length result.0.now + length result.1.now ≤ length text.now }
 {
     for (i, byte) in text.iter().enumerate() {
         if *byte == b'\n' {

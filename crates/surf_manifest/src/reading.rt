@@ -1,17 +1,21 @@
 // The reader's state between two lines.
-ghost use Rattle.std.specs.Prelude.{◌≡◌, ◌<◌, ◌^◌, IfOk, MatchResult, length};
+ghost use Rattle.std.specs.Prelude.{◌≡◌, ◌<◌, ◌≤◌, ◌^◌, IfErr, IfOk, MatchOption, MatchResult, None, Some, if◌then◌else◌, length};
 ghost use Rattle.surf_manifest.specs.Answers.{Refuses};
 ghost use Rattle.surf_manifest.specs.Drafts.{HasRoom, HasRoomFor, IsDraft};
-ghost use Rattle.surf_manifest.specs.Grammar.{has_block};
+ghost use Rattle.surf_manifest.specs.Grammar.{ManifestText, has_block};
 ghost use Rattle.surf_manifest.specs.Kinds.{line_of_kind};
-ghost use Rattle.surf_manifest.specs.Limits.{at_start, counted, known_by, line_step, opened_block};
+ghost use Rattle.surf_manifest.specs.Limits.{at_start, counted, end_fault, finished, known_by, line_step, opened_block};
 ghost use Rattle.surf_manifest.specs.Line.{Closes, Opens, line_of};
+ghost use Rattle.surf_manifest.specs.Manifests.{lines_in};
 ghost use Rattle.surf_manifest.specs.Readings.{reached_by};
+ghost use Rattle.surf_manifest.specs.WellFormed.{IsWellFormed};
 
 use crate::draft::Draft;
-use crate::error::ManifestError;
+use crate::error::{Block, ManifestError};
 use crate::line::{BlockKind, LineKind, kind_of};
+use crate::manifest::Manifest;
 use std::alloc::Global;
+use surf_base::Text;
 
 /// What was read so far, and where the next line stands.
 #[derive(Drop)]
@@ -128,4 +132,66 @@ impl Reading {
             Err(fault) => Err(fault),
         }
     }
+
+    // The fault of a text whose lines have none.
+    fn end_fault(&self) -> Option<ManifestError>
+        ensures { MatchOption result (end_fault (reached_by self.now) (reached_by self.now).held ≡ None) (λ f. end_fault (reached_by self.now) (reached_by self.now).held ≡ Some f) }
+    {
+        let draft = &self.draft;
+        if self.block.is_some() {
+            return Some(ManifestError::Unclosed(self.opened));
+        }
+        if !self.has_rules {
+            return Some(ManifestError::MissingBlock(Block::Rules));
+        }
+        if !self.has_state {
+            return Some(ManifestError::MissingBlock(Block::State));
+        }
+        if draft.height == 0 {
+            return Some(ManifestError::NoSites);
+        }
+        if draft.rule_count > 1_048_576 {
+            return Some(ManifestError::TooManyRules(draft.rule_count));
+        }
+        if draft.site_count > 33_554_432 {
+            return Some(ManifestError::TooManySites(draft.site_count));
+        }
+        if draft.wrap && (draft.width < 3 || draft.height < 3) {
+            return Some(ManifestError::WrapSize);
+        }
+        None
+    }
+
+    /// The manifest that was read, or the fault of its end.
+    pub fn finish(self) -> Result<Manifest, ManifestError>
+        requires draft { IsDraft self.draft }
+        requires whole { (m : ManifestText) → finished (reached_by self) ≡ Ok m → IsWellFormed m }
+        requires sides { (self.draft.width < 2 ^ 32) × (self.draft.height < 2 ^ 32) }
+        ensures ok { IfOk result (λ m. finished (reached_by self) ≡ Ok m.text) }
+        ensures names { IfOk result (λ m. length m.names ≤ 37748736) }
+        ensures refused { IfErr result (λ f. finished (reached_by self) ≡ Err f) }
+    {
+        if let Some(fault) = self.end_fault() {
+            return Err(fault);
+        }
+        let draft = self.draft;
+        Ok(Manifest {
+            kind: draft.kind,
+            wrap: draft.wrap,
+            width: draft.width as u32,
+            height: draft.height as u32,
+            options: draft.options,
+            names: draft.names,
+            rules: draft.rules,
+            start: draft.start,
+            colormap: colormap(self.has_colours, draft.colours),
+        })
+    }
+}
+
+// The lines of the colormap, where it was opened.
+fn colormap(is_opened: bool, lines: Vec<Text>) -> Option<Vec<Text>>
+    ensures { lines_in result ≡ (if is_opened then Some lines.items else None) }
+{
+    if is_opened { Some(lines) } else { None }
 }
