@@ -10,3 +10,4 @@ pub mod DraftLemmas
 pub mod RowLemmas
 pub mod ReadingLemmas
 pub mod Counts
+pub mod Runs
