@@ -1,0 +1,13 @@
+pub mod StepLemmas
+pub mod WellFormed
+pub mod Good
+pub mod LinesLemmas
+pub mod Cuts
+pub mod Values
+pub mod LimitLemmas
+pub mod Growth
+pub mod DraftLemmas
+pub mod RowLemmas
+pub mod ReadingLemmas
+pub mod Counts
+pub mod Runs

@@ -1,0 +1,93 @@
+// Rows of the initial state.
+ghost use Rattle.std.specs.List.{list_all};
+ghost use Rattle.std.specs.Prelude.{◌≡◌, ◌+◌, ◌<◌, ◌^◌, IfErr, IfOk, MatchResult, [], ◌∷◌, length, true};
+ghost use Rattle.surf_manifest.specs.Answers.{Refuses};
+ghost use Rattle.surf_manifest.specs.Bytes.{tokens_of};
+ghost use Rattle.surf_manifest.specs.Drafts.{IsDraft, held_by};
+ghost use Rattle.surf_manifest.specs.Item.{is_name, row_of};
+ghost use Rattle.surf_manifest.specs.Limits.{item_step, with_names, with_row};
+
+use crate::draft::Draft;
+use crate::error::ManifestError;
+use crate::lines::next_token;
+use crate::words::is_name_token;
+use surf_base::NoMemory;
+
+const SITE_LIMIT: usize = 33_554_432;
+
+impl Draft {
+    // Adds a site of this name, which is kept within the limit.
+    fn add_site(&mut self, name: &[u8]) -> Result<(), NoMemory>
+        requires draft { IsDraft self.old }
+        requires counted { self.old.site_count < 2 ^ 63 }
+        ensures draft { IfOk result (λ _. IsDraft self.new) }
+        ensures held { IfOk result (λ _. held_by self.new ≡ with_names (held_by self.old) (name.now ∷ [])) }
+    {
+        self.site_count += 1;
+        if self.start.len() >= SITE_LIMIT {
+            return Ok(());
+        }
+        let number = self.names.intern(name)?;
+        self.start.push(number).map_err(|_| NoMemory)?;
+        Ok(())
+    }
+
+    // Adds the names of a row, and answers how many they are.
+    fn add_names(&mut self, number: u64, text: &[u8]) -> Result<u64, ManifestError>
+        requires draft { IsDraft self.old }
+        requires counted { self.old.site_count + length text.now < 2 ^ 63 }
+        ensures draft { IfOk result (λ _. IsDraft self.new) }
+        ensures count { IfOk result (λ n. n ≡ length (tokens_of text.now)) }
+        ensures names { IfOk result (λ _. list_all is_name (tokens_of text.now) ≡ true) }
+        ensures held { IfOk result (λ _. held_by self.new ≡ with_names (held_by self.old) (tokens_of text.now)) }
+        ensures refused { IfErr result (λ f. Refuses (row_of number (tokens_of text.now)) f) }
+    {
+        let mut count = 0u64;
+        let mut rest = text;
+        while let Some((token, after)) = next_token(rest) {
+            if !is_name_token(token) {
+                return Err(ManifestError::BadLine(number));
+            }
+            match self.add_site(token) {
+                Ok(()) => {
+                    count += 1;
+                    rest = after;
+                }
+                Err(_) => return Err(ManifestError::NoMemory),
+            }
+        }
+        Ok(count)
+    }
+
+    // Ends the row of so many names.
+    fn end_row(&mut self, count: u64)
+        requires draft { IsDraft self.old }
+        requires counted { self.old.height < 2 ^ 63 }
+        ensures draft { IsDraft self.new }
+        ensures held { held_by self.new ≡ with_row (held_by self.old) count }
+    {
+        if self.height == 0 {
+            self.width = count;
+        }
+        self.height += 1;
+    }
+
+    /// Adds the row of line `number`. After a refusal the draft is of no use.
+    pub fn add_row(&mut self, number: u64, text: &[u8]) -> Result<(), ManifestError>
+        requires draft { IsDraft self.old }
+        requires counted { self.old.site_count + length text.now < 2 ^ 63 }
+        requires counted_rows { self.old.height < 2 ^ 63 }
+        ensures draft { IfOk result (λ _. IsDraft self.new) }
+        ensures step { MatchResult result (λ _. item_step number (held_by self.old) (row_of number (tokens_of text.now)) ≡ Ok (held_by self.new)) (λ f. Refuses (item_step number (held_by self.old) (row_of number (tokens_of text.now))) f) }
+    {
+        let count = match self.add_names(number, text) {
+            Ok(count) => count,
+            Err(fault) => return Err(fault),
+        };
+        if self.height != 0 && count != self.width {
+            return Err(ManifestError::Ragged(number));
+        }
+        self.end_row(count);
+        Ok(())
+    }
+}
