@@ -1,9 +1,9 @@
 -- What the picker keeps.
-use Rattle.std.proofs.Common.{ℕ, ◌≡◌, ◌+◌, ◌-◌, ◌*◌, ◌/◌, ◌^◌, ◌<◌, ◌≤◌, List, [], ◌∷◌, ◌++◌, length, take, drop, sum, slice_index, get_or, set, replicate, refl, sym, ◌∙◌, ap, subst, arith, zero, suc, ⊎_elim, length-append, length-set, length-drop, length-take, pow-add}
-use Rattle.std.proofs.lemmas.List.{get_or-set_other, get_or-set_same, drop-set-add, set-append_left, length-replicate, get_or-replicate, get_or-drop, get_or-append_right, get_or_append_left, take_at, drop_at, take_all}
+use Rattle.std.proofs.Common.{ℕ, ◌≡◌, ◌+◌, ◌-◌, ◌*◌, ◌/◌, ◌^◌, ◌<◌, ◌≤◌, List, [], ◌∷◌, ◌++◌, length, take, drop, sum, slice_index, set, replicate, refl, sym, ◌∙◌, ap, arith, zero, suc, ⊎_elim, length-append, length-set}
+use Rattle.std.proofs.lemmas.List.{get_or-set_other, drop-set-add, set-append_left, length-replicate, get_or-replicate, get_or-drop, get_or-append_right, get_or_append_left, take_at, drop_at, take_all}
 use Rattle.std.proofs.lemmas.List.Sums.{sum_by-cons, sum_by-append, sum_by-take-drop}
 use Rattle.std.proofs.lemmas.List.Folds.{sum_by-replicate}
-use Rattle.std.proofs.lemmas.Bool.{cases_lt, cases_eq}
+use Rattle.std.proofs.lemmas.Bool.{cases_lt}
 use Rattle.std.proofs.Math.Nat.{one-le-pow}
 use Rattle.std.specs.Prelude.{max}
 use Rattle.std.specs.Int.{IsPowerOfTwo}
@@ -34,19 +34,21 @@ top_is ws S half t k inner =
 -- a list of a row of zeros and these leaves
 pub made : (ws S : List ℕ) (half t : ℕ) → half ≡ 2 ^ t → length ws ≤ half → ((k : ℕ) → length ws ≤ 2 ^ k → t ≤ k) → sum ws < 2 ^ 128 → S ≡ replicate half 0 ++ (ws ++ replicate (half - length ws) 0) → Kept ws S half t
 made ws S half t power holds least small is =
-  record {
-    power = power;
-    holds = holds;
-    least = least;
-    size = ap length is ∙ (let z : ℕ = 0 in omega (arith, length-append (replicate half 0) (ws ++ replicate (half - length ws) 0), length-append ws (replicate (half - length ws) 0), length-replicate half z, length-replicate (half - length ws) z, holds));
-    unused = ap (λ v. slice_index v 0) is ∙ get_or_append_left (replicate half 0) _ 0 0 (let z : ℕ = 0 in omega (arith, length-replicate half z, some_half half t power)) ∙ get_or-replicate half 0 0 0 (some_half half t power);
-    leaves = ap (λ v. drop half v) is ∙ drop_at (replicate half 0) _ half (let z : ℕ = 0 in length-replicate half z);
-    small = small;
-  }
+    record {
+      power = power;
+      holds = holds;
+      least = least;
+      size = ap length is ∙ (let z : ℕ = 0 in omega (arith, length-append (replicate half 0) (ws ++ replicate (half - length ws) 0), length-append ws (replicate (half - length ws) 0), length-replicate half z, length-replicate (half - length ws) z, holds));
+      unused = ap (λ v. slice_index v 0) is ∙ get_or_append_left (replicate half 0) _ 0 0 (let z : ℕ = 0 in omega (arith, length-replicate half z, some_half half t power)) ∙ get_or-replicate half 0 0 0 (some_half half t power);
+      leaves = ap (λ v. drop half v) is ∙ drop_at (replicate half 0) _ half (let z : ℕ = 0 in length-replicate half z);
+      small = small;
+    }
 
 pub same_kept : (ws old new : List ℕ) (half t : ℕ) → Kept ws old half t → SameLeaves old new half → Kept ws new half t
 same_kept ws old new half t k same = record {
-  power = k.power; holds = k.holds; least = k.least;
+  power = k.power;
+  holds = k.holds;
+  least = k.least;
   size = same.size ∙ k.size;
   unused = same.unused ∙ k.unused;
   leaves = same.leaves ∙ k.leaves;
@@ -62,7 +64,7 @@ least_power : (n half t : ℕ) → half ≡ 2 ^ t → half / 2 < max 1 n → (k 
 least_power n half zero power less k le = omega arith
 least_power n half (suc s) power less k le = ⊎_elim
     (λ lt. let under : 2 ^ k ≤ 2 ^ s = pow_mono (let le : k ≤ s = omega (arith, lt) in le) in
-        absurd (omega (arith, power, less, le, under, double s, one-le-pow s 2 (omega arith))))
+    absurd (omega (arith, power, less, le, under, double s, one-le-pow s 2 (omega arith))))
     (λ ge. ge)
     (cases_lt k (suc s))
 
@@ -77,16 +79,16 @@ built ws S new half n power holds less small is same inner count =
 -- one weight is set
 pub set_kept : (ws S : List ℕ) (half t i w : ℕ) → Kept ws S half t → i < length ws → sum (set ws i w) < 2 ^ 128 → Kept (set ws i w) (set S (half + i) w) half t
 set_kept ws S half t i w k lt small =
-  let same = length-set ws i w in
-  record {
-    power = k.power;
-    holds = omega (arith, same, k.holds);
-    least = λ j le. k.least j (omega (arith, same, le));
-    size = length-set S (half + i) w ∙ k.size;
-    unused = get_or-set_other S (half + i) 0 w 0 (λ e. omega (arith, e, some_half half t k.power)) ∙ k.unused;
-    leaves = drop-set-add half S i w ∙ ap (λ v. set v i w) k.leaves ∙ set-append_left ws (replicate (half - length ws) 0) i w lt ∙ ap (λ n. set ws i w ++ replicate (half - n) 0) (sym same);
-    small = small;
-  }
+    let same = length-set ws i w in
+    record {
+      power = k.power;
+      holds = omega (arith, same, k.holds);
+      least = λ j le. k.least j (omega (arith, same, le));
+      size = length-set S (half + i) w ∙ k.size;
+      unused = get_or-set_other S (half + i) 0 w 0 (λ e. omega (arith, e, some_half half t k.power)) ∙ k.unused;
+      leaves = drop-set-add half S i w ∙ ap (λ v. set v i w) k.leaves ∙ set-append_left ws (replicate (half - length ws) 0) i w lt ∙ ap (λ n. set ws i w ++ replicate (half - n) 0) (sym same);
+      small = small;
+    }
 
 pub set_inner : (S : List ℕ) (half i w : ℕ) → length S ≡ 2 * half → InnerFrom 1 half S → i < half → InnerBut ((half + i) / 2) half (set S (half + i) w)
 set_inner S half i w size inner lt j low high other =
@@ -107,7 +109,11 @@ pub record Down (S : List ℕ) (t r place rest : ℕ) : Type 0 where
 
 pub down_first : (ws S : List ℕ) (half t r : ℕ) → Kept ws S half t → InnerFrom 1 half S → r < sum ws → Down S t r 1 r
 down_first ws S half t r k inner lt = record {
-  k = 0; l = t; rows = omega arith; low = omega arith; high = omega arith;
+  k = 0;
+  l = t;
+  rows = omega arith;
+  low = omega arith;
+  high = omega arith;
   before = (let e : 1 * 2 ^ t ≡ 2 ^ t = omega arith in ap (λ n. first_sum S n + r) e);
   less = omega (arith, top_is ws S half t k inner, lt);
 }
@@ -122,7 +128,9 @@ down_left ws S half t r place rest kept inner d lt less =
     let h = height t place d.k d.l d.rows d.low (omega (arith, lt, kept.power)) in
     let e : place * 2 ^ d.l ≡ place * 2 * 2 ^ h.0 = ap (λ v. place * 2 ^ v) h.1 ∙ ap (λ v. place * v) (double h.0) ∙ (let e : place * (2 * 2 ^ h.0) ≡ place * 2 * 2 ^ h.0 = omega arith in e) in
     record {
-      k = suc d.k; l = h.0; rows = omega (arith, h.1, d.rows);
+      k = suc d.k;
+      l = h.0;
+      rows = omega (arith, h.1, d.rows);
       low = omega (arith, double d.k, d.low);
       high = omega (arith, double d.k, d.high);
       before = ap (λ n. first_sum S n + rest) (sym e) ∙ d.before;
@@ -144,7 +152,9 @@ down_right ws S half t r place rest v kept inner d lt is le =
     let same : slice_index S (2 * place) ≡ slice_index S (place * 2) = ap (λ n. slice_index S n) (let c : 2 * place ≡ place * 2 = omega arith in c) in
     let same1 : slice_index S (2 * place + 1) ≡ slice_index S (place * 2 + 1) = ap (λ n. slice_index S n) (let c : 2 * place + 1 ≡ place * 2 + 1 = omega arith in c) in
     record {
-      k = suc d.k; l = h.0; rows = r1.rows;
+      k = suc d.k;
+      l = h.0;
+      rows = r1.rows;
       low = r1.low;
       high = high;
       before = omega (arith, s, b, is, le);

@@ -1,5 +1,5 @@
 -- Trees of sums, in a list whose place i has its two parts at places 2i and 2i + 1.
-use Rattle.std.specs.Prelude.{ℕ, ◌+◌, ◌-◌, ◌*◌, ◌^◌, ◌<◌, ◌≤◌, ◌≡◌, List, ◌++◌, length, take, drop, replicate, sum, slice_index}
+use Rattle.std.specs.Prelude.{ℕ, ◌+◌, ◌-◌, ◌*◌, ◌^◌, ◌<◌, ◌≤◌, ◌≡◌, List, ◌++◌, length, drop, replicate, sum, slice_index}
 
 -- the tree of sums over weights: t is the least number for which 2^t is at least the number of weights
 pub record TreeOf (ws sums : List ℕ) (t : ℕ) : Type 0 where

@@ -1,4 +1,4 @@
-ghost use Rattle.std.specs.Prelude.{◌≡◌, ◌<◌, ◌≤◌, ◌^◌, ◌+◌, ◌-◌, ◌*◌, ◌/◌, length, IfSome, replicate, ◌++◌};
+ghost use Rattle.std.specs.Prelude.{◌≡◌, ◌<◌, ◌≤◌, ◌^◌, ◌+◌, ◌-◌, ◌*◌, ◌/◌, length, IfOk, replicate, ◌++◌};
 ghost use Rattle.surf_pick.specs.Trees.{IsTree, IsRows, InnerFrom, InnerBut, SameLeaves};
 
 use crate::picker::Picker;
@@ -47,10 +47,7 @@ impl Picker for TreePicker {
     fn build(alloc: Global, list: Vec<u128>) -> Result<Self, NoMemory> {
         let count = list.len();
         let half = count.next_power_of_two();
-        let mut sums = match leaves_of(alloc, &list, half) {
-            Some(sums) => sums,
-            None => return Err(NoMemory),
-        };
+        let mut sums = leaves_of(alloc, &list, half)?;
         fill(&mut sums, half);
         Ok(TreePicker {
             sums,
@@ -86,17 +83,17 @@ impl Picker for TreePicker {
 }
 
 // A row of zeros, and then the weights and zeros.
-fn leaves_of(alloc: Global, list: &[u128], half: usize) -> Option<Vec<u128>>
+fn leaves_of(alloc: Global, list: &[u128], half: usize) -> Result<Vec<u128>, NoMemory>
     requires count { length list.now ≤ half }
     requires small { half < 2 ^ 61 }
-    ensures { IfSome result (λ sums. sums.items
+    ensures { IfOk result (λ sums. sums.items
         ≡ replicate half 0 ++ (list.now ++ replicate (half - length list.now) 0)) }
 {
-    let mut sums = Vec::with_capacity(alloc, 2 * half).ok()?;
-    sums.resize(half, 0u128).ok()?;
-    sums.extend_from_slice(list).ok()?;
-    sums.resize(2 * half, 0).ok()?;
-    Some(sums)
+    let mut sums = Vec::with_capacity(alloc, 2 * half).map_err(|_| NoMemory)?;
+    sums.resize(half, 0u128).map_err(|_| NoMemory)?;
+    sums.extend_from_slice(list).map_err(|_| NoMemory)?;
+    sums.resize(2 * half, 0).map_err(|_| NoMemory)?;
+    Ok(sums)
 }
 
 // Fills the inner places from the leaves.

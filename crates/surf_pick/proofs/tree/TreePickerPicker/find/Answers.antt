@@ -1,7 +1,7 @@
-use Rattle.std.proofs.Common.{rules, arith, sym, ◌∙◌, ◌≡◌, ◌<◌, ◌≤◌, ◌*◌, ◌+◌, ◌-◌, slice_index, sum, ap, subst}
+use Rattle.std.proofs.Common.{rules, arith, ◌≡◌, ◌*◌, ◌-◌, slice_index, sum, ap, subst}
 use Rattle.surf_pick.specs.Finds.{Finds}
 use Rattle.surf_pick.proofs.Spans.{read_is}
-use Rattle.surf_pick.proofs.Kepts.{Down, down_first, down_left, down_right, down_finds}
+use Rattle.surf_pick.proofs.Kepts.{down_first, down_left, down_right, down_finds}
 use Rattle.surf_pick.proofs.tree.TreePickerPicker.find.Goals as goal
 
 pub loop-place-init : goal.loop-place-init
