@@ -1,0 +1,3 @@
+pub mod Refresh
+pub mod Steps
+pub mod Events
