@@ -1,8 +1,8 @@
 -- The events at a site, and at two, come from the rules of their left side.
 use Rattle.std.specs.Prelude.{nat_lt, ◌==◌, is_none, filter}
-use Rattle.std.specs.List.{flat_map, range_with_len}
+use Rattle.std.specs.List.{range_with_len}
 use Rattle.std.specs.Option.{option_map, option_map_or}
-use Rattle.std.proofs.Common.{ℕ, ◌≡◌, ◌+◌, ◌<◌, inl, inr, Bool, true, false, ◌&&◌, List, [], length, map, Option, Some, None, slice_get, refl, sym, ◌∙◌, ap, subst, arith, nat_eq}
+use Rattle.std.proofs.Common.{ℕ, ◌≡◌, inl, inr, Bool, true, false, ◌&&◌, List, length, map, Option, Some, None, slice_get, refl, sym, ◌∙◌, ap, subst, nat_eq}
 use Rattle.std.proofs.lemmas.Bool.{cases_eq, eq-eqb, ne_eqb}
 use Rattle.std.proofs.lemmas.List.{length-map}
 use Rattle.std.proofs.lemmas.Option.{slice_get-map}
@@ -14,8 +14,8 @@ use Rattle.surf_world.specs.declared.event.Event.{Event}
 use Rattle.surf_world.specs.Systems as systems
 use Rattle.surf_world.specs.Systems.{Surface}
 use Rattle.surf_world.specs.Worlds.{rule_of}
-use Rattle.surf_world.specs.Choices.{inside_test, adjacent_test, is_name, holds_test, second_test, fits_test, enabled_test, event_of, events_on}
-use Rattle.surf_world.proofs.Tests.{inside_from, adjacent_from}
+use Rattle.surf_world.specs.Choices.{is_name, holds_test, second_test, fits_test, enabled_test, event_of, events_on}
+use Rattle.surf_world.proofs.Decisions.{inside_from, adjacent_from}
 use Rattle.surf_world.proofs.Members.{same_filter, filter_map_swap}
 
 eq_swap : (a b : ℕ) → nat_eq a b ≡ nat_eq b a

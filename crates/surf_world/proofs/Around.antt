@@ -2,13 +2,13 @@
 use Rattle.std.specs.Prelude.{Contains, slice_index, slice_set}
 use Rattle.std.specs.List.{flat_map}
 use Rattle.std.specs.Option.{option_to_list}
-use Rattle.std.proofs.Common.{ℕ, zero, suc, ◌≡◌, ◌+◌, ◌*◌, ◌<◌, ◌≤◌, ◌⊎◌, inl, inr, List, [], ◌∷◌, ◌++◌, length, map, Option, Some, None, slice_get, set, get_or, refl, sym, ◌∙◌, ap, subst, arith, length-set}
+use Rattle.std.proofs.Common.{ℕ, zero, suc, ◌≡◌, ◌*◌, ◌<◌, ◌⊎◌, inl, inr, List, [], ◌∷◌, ◌++◌, length, map, Option, Some, None, slice_get, set, refl, sym, ◌∙◌, ap, subst, arith, length-set}
 use Rattle.std.proofs.lemmas.Bool.{cases_eq}
 use Rattle.std.proofs.lemmas.List.{get_or-set_other, get_or-set_same, ext_get_or, length-map}
 use Rattle.std.proofs.lemmas.List.Elements.{Contains-append_left, Contains-append_right, Contains-append_cases}
 use Rattle.surf_lattice.specs.declared.site.Site.{Site}
-use Rattle.surf_lattice.specs.Grids.{Grid, IsInside, Adjacent, neighbour, neighbours, degree, place, site_at, sites}
-use Rattle.surf_lattice.proofs.Neighbours.{neighbour_inside, adjacent_from, adjacent_back, adjacent_listed, listed_adjacent}
+use Rattle.surf_lattice.specs.Grids.{Grid, IsInside, Adjacent, neighbour, neighbours, place, site_at, sites}
+use Rattle.surf_lattice.proofs.Neighbours.{adjacent_from, adjacent_back, adjacent_listed, listed_adjacent}
 use Rattle.surf_world.specs.declared.event.Event.{Event}
 use Rattle.surf_world.specs.Systems.{Rule, Surface, FitsSecond, Enabled, after, with_rule, with_second}
 use Rattle.surf_world.specs.Picks.{weight_of, around, around_event, refreshed}
@@ -114,11 +114,11 @@ keeps_weight S c e s f inside off =
     same_weight S c (after S c e) s
     (sym (after_other S c e (place g s) (λ p at. off p (has_around g e p p at (has_here p (neighbours g p))))))
     (λ i below. there_same g c (after S c e) (neighbour g s i) (λ q is.
-      sym (after_other S c e (place g q) (λ p at same.
-        let a = adjacent_from g s i q inside below is in
-        let one : p ≡ q = one_place g p q (event_inside S c e f p at) (a.second) same in
-        let back : Adjacent g p s = subst (λ r. Adjacent g r s) (sym one) (adjacent_back g s q a) in
-        off s (has_around g e p s at (has_later p (neighbours g p) s (adjacent_listed g p s back))) refl))))
+    sym (after_other S c e (place g q) (λ p at same.
+    let a = adjacent_from g s i q inside below is in
+    let one : p ≡ q = one_place g p q (event_inside S c e f p at) (a.second) same in
+    let back : Adjacent g p s = subst (λ r. Adjacent g r s) (sym one) (adjacent_back g s q a) in
+    off s (has_around g e p s at (has_later p (neighbours g p) s (adjacent_listed g p s back))) refl))))
 
 map_at : {X : Type 0} (f : X → ℕ) (xs : List X) (k : ℕ) (x : X) → slice_get xs k ≡ Some x → slice_index (map f xs) k ≡ f x
 map_at f [] k x is = cc
@@ -135,17 +135,17 @@ refreshed_is S c e ws f is =
     let n : length ws ≡ g.width * g.height = ap length is ∙ length-map (sites g) (weight_of S c) ∙ sites_length g in
     let m : length (map (weight_of S (after S c e)) (sites S.grid)) ≡ g.width * g.height = length-map (sites g) (weight_of S d) ∙ sites_length g in
     ext_get_or 0 _ _ (refreshed_length S d ps ws ∙ n ∙ sym m) (λ i lt.
-      let within : i < g.width * g.height = omega (arith, lt, refreshed_length S d ps ws, n) in
-      let s = site_at g i in
-      let inside = site_inside g i within in
-      let here = place_site g i in
-      let at = site_of g i within in
-      refreshed_at S d ps ws i (weight_of S d s) (omega (arith, within, n))
-      (λ p has same.
-        let a = around_has g e p has in
-        let p_inside = around_inside g a.0 p (event_inside S c e f a.0 a.1) a.2 in
-        ap (weight_of S d) (one_place g p s p_inside inside (same ∙ sym here)))
-      (λ off.
-        ap (λ v. slice_index v i) is ∙ map_at (weight_of S c) (sites g) i s at
-        ∙ keeps_weight S c e s f inside (λ p has same. off p has (same ∙ here)))
-      ∙ sym (map_at (weight_of S d) (sites g) i s at))
+    let within : i < g.width * g.height = omega (arith, lt, refreshed_length S d ps ws, n) in
+    let s = site_at g i in
+    let inside = site_inside g i within in
+    let here = place_site g i in
+    let at = site_of g i within in
+    refreshed_at S d ps ws i (weight_of S d s) (omega (arith, within, n))
+    (λ p has same.
+    let a = around_has g e p has in
+    let p_inside = around_inside g a.0 p (event_inside S c e f a.0 a.1) a.2 in
+    ap (weight_of S d) (one_place g p s p_inside inside (same ∙ sym here)))
+    (λ off.
+    ap (λ v. slice_index v i) is ∙ map_at (weight_of S c) (sites g) i s at
+    ∙ keeps_weight S c e s f inside (λ p has same. off p has (same ∙ here)))
+    ∙ sym (map_at (weight_of S d) (sites g) i s at))

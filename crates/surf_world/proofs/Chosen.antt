@@ -1,8 +1,8 @@
 -- A choice of a number is enabled, and there is one below the sum of the rates.
 use Rattle.std.specs.Prelude.{Contains}
-use Rattle.std.specs.List.{filter, flat_map, range_with_len, sum_by}
+use Rattle.std.specs.List.{sum_by}
 use Rattle.std.specs.Option.{option_map_or}
-use Rattle.std.proofs.Common.{ℕ, ◌≡◌, ◌+◌, ◌-◌, ◌<◌, ◌≤◌, inl, inr, Bool, List, [], ◌∷◌, length, Option, Some, None, slice_get, refl, sym, ◌∙◌, ap, arith, nat_eq}
+use Rattle.std.proofs.Common.{ℕ, ◌≡◌, ◌-◌, ◌<◌, inl, inr, List, [], ◌∷◌, length, Some, refl, sym, ◌∙◌, ap, arith, nat_eq}
 use Rattle.std.proofs.lemmas.Bool.{cases_lt}
 use Rattle.std.proofs.lemmas.Option.{same_Some}
 use Rattle.std.proofs.lemmas.List.Sums.{sum_by-cons}
@@ -11,7 +11,7 @@ use Rattle.surf_world.specs.declared.event.Event.{Event}
 use Rattle.surf_world.specs.Systems.{Surface, Enabled, Stuck}
 use Rattle.surf_world.specs.Choices.{enabled_test, choices_at, choices}
 use Rattle.surf_world.specs.Picks.{rate_of, pick}
-use Rattle.surf_world.proofs.Tests.{enabled_to, number_to, number_from}
+use Rattle.surf_world.proofs.Decisions.{enabled_to, number_to, number_from}
 use Rattle.surf_world.proofs.Members.{has_first, has_later}
 use Rattle.surf_world.proofs.Listed.{fitting, at_passes, listed_enabled, none_stuck, stuck_none}
 use Rattle.surf_world.proofs.Laws.{pick_here, pick_later}

@@ -1,14 +1,12 @@
 -- Sums over lists end to end, and the choice of a number in two steps.
-use Rattle.std.proofs.Common.{ℕ, ◌≡◌, ◌+◌, ◌-◌, ◌*◌, ◌<◌, ◌≤◌, Bool, true, false, ◌&&◌, cond, List, [], ◌∷◌, ◌++◌, length, map, take, drop, sum, slice_index, Option, Some, None, slice_get, refl, sym, ◌∙◌, ap, subst, arith, zero, suc, nat_eq, nat_lt, ⊎_elim, if◌then◌else◌}
-use Rattle.std.specs.List.{filter, flat_map, range_with_len, sum_by}
-use Rattle.std.proofs.lemmas.List.Sums.{sum_by-cons, sum_by-append, sum-map}
+use Rattle.std.proofs.Common.{ℕ, ◌≡◌, ◌+◌, ◌-◌, ◌<◌, ◌≤◌, List, [], ◌∷◌, ◌++◌, map, take, sum, Some, slice_get, refl, sym, ◌∙◌, ap, arith, zero, suc, nat_eq, ⊎_elim}
+use Rattle.std.specs.List.{flat_map, sum_by}
+use Rattle.std.proofs.lemmas.List.Sums.{sum_by-cons, sum_by-append}
 use Rattle.std.proofs.lemmas.Bool.{cases_lt, lt-ltb, le-ltb}
 use Rattle.surf_lattice.specs.Grids.{sites}
-use Rattle.surf_world.specs.declared.event.Event.{Event}
 use Rattle.surf_world.specs.Worlds.{Placed}
-use Rattle.surf_world.specs.Systems.{Surface}
 use Rattle.surf_world.specs.Choices.{choices_at, choices}
-use Rattle.surf_world.specs.Picks.{rate_of, pick, weight_of, weights_of, pick_of}
+use Rattle.surf_world.specs.Picks.{rate_of, pick, weights_of}
 
 pub sum_along : {X Y : Type 0} (f : Y → ℕ) (g : X → List Y) (xs : List X) → sum_by f (flat_map g xs) ≡ sum (map (λ x. sum_by f (g x)) xs)
 sum_along f g [] = refl

@@ -1,4 +1,4 @@
-pub mod Tests
+pub mod Decisions
 pub mod Laws
 pub mod Members
 pub mod Places

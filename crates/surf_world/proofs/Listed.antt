@@ -1,16 +1,16 @@
 -- The choices are the enabled events, and there are none exactly where the surface is stuck.
-use Rattle.std.specs.Prelude.{Contains, ◌↔◌}
-use Rattle.std.specs.List.{filter, flat_map, range_with_len}
-use Rattle.std.proofs.Common.{ℕ, ◌≡◌, ◌+◌, ◌*◌, ◌<◌, ◌≤◌, ◌⊎◌, inl, inr, Bool, true, List, [], ◌∷◌, ◌++◌, length, map, Option, Some, None, slice_get, refl, sym, ◌∙◌, ap, subst, arith}
+use Rattle.std.specs.Prelude.{Contains}
+use Rattle.std.specs.List.{flat_map, range_with_len}
+use Rattle.std.proofs.Common.{ℕ, ◌≡◌, ◌*◌, ◌<◌, inl, inr, Bool, true, List, [], length, map, Option, Some, None, slice_get, refl, sym, subst, arith}
 use Rattle.std.proofs.lemmas.List.Elements.{Contains-append_left, Contains-append_right, Contains-append_cases}
 use Rattle.std.proofs.lemmas.Option.{slice_get_within, same_Some}
 use Rattle.surf_lattice.specs.declared.site.Site.{Site}
-use Rattle.surf_lattice.specs.Grids.{Grid, IsInside, Adjacent, neighbour, degree, directions, place, site_at, sites}
+use Rattle.surf_lattice.specs.Grids.{Grid, Adjacent, neighbour, degree, directions, place, site_at, sites}
 use Rattle.surf_lattice.proofs.Neighbours.{adjacent_back}
 use Rattle.surf_world.specs.declared.event.Event.{Event}
 use Rattle.surf_world.specs.Systems.{Rule, Surface, Holds, FitsSecond, Fits, Enabled, Stuck}
 use Rattle.surf_world.specs.Choices.{enabled_test, event_of, events_on, events_toward, events_at, choices_at, choices}
-use Rattle.surf_world.proofs.Tests.{enabled_to, enabled_from}
+use Rattle.surf_world.proofs.Decisions.{enabled_to, enabled_from}
 use Rattle.surf_world.proofs.Places.{listed}
 use Rattle.surf_world.proofs.Members.{has_filter, filter_has, has_map, map_has, has_flat, flat_has, has_range, range_has, has_at, nothing_in, empty_has}
 
@@ -86,10 +86,10 @@ module _ {N : Type 0} (eq : N → N → Bool) (to : (a b : N) → eq a b ≡ tru
 
   pub idle_stuck : (S : Surface N) (c : List N) → ((k : ℕ) → k < S.grid.width * S.grid.height → choices_at eq S c (site_at S.grid k) ≡ []) → Stuck S c
   idle_stuck S c idle = none_stuck S c (nothing_in (choices eq S c) (λ e h.
-    let m = flat_has (choices_at eq S c) (sites S.grid) e h in
-    let k = map_has (site_at S.grid) (range_with_len 0 (S.grid.width * S.grid.height)) m.0 m.1 in
-    let below = (range_has 0 (S.grid.width * S.grid.height) k.0 k.1).1 in
-    empty_has (choices_at eq S c m.0) e (subst (λ p. choices_at eq S c p ≡ []) k.2 (idle k.0 (omega (arith, below)))) m.2))
+      let m = flat_has (choices_at eq S c) (sites S.grid) e h in
+      let k = map_has (site_at S.grid) (range_with_len 0 (S.grid.width * S.grid.height)) m.0 m.1 in
+      let below = (range_has 0 (S.grid.width * S.grid.height) k.0 k.1).1 in
+      empty_has (choices_at eq S c m.0) e (subst (λ p. choices_at eq S c p ≡ []) k.2 (idle k.0 (omega (arith, below)))) m.2))
 
 -- a rule of one name twice may be used in both orders
 twice_at : {N : Type 0} (g : Grid) (c : List N) (a : N) (p q : Site) (right : Option N) → right ≡ Some a → Holds g c p a → FitsSecond g c p right (Some q) → FitsSecond g c q right (Some p)

@@ -1,14 +1,14 @@
 -- A site keeps its choices where its name and the names of its neighbours stay.
 use Rattle.std.specs.Prelude.{nat_lt}
-use Rattle.std.specs.List.{filter, flat_map, range_with_len, sum_by}
-use Rattle.std.proofs.Common.{ℕ, ◌≡◌, ◌+◌, ◌<◌, ◌≤◌, Bool, ◌&&◌, List, [], ◌∷◌, ◌++◌, length, map, Option, Some, None, slice_get, refl, ap, ◌∙◌, arith, nat_eq}
+use Rattle.std.specs.List.{filter, range_with_len, sum_by}
+use Rattle.std.proofs.Common.{ℕ, ◌≡◌, ◌<◌, Bool, ◌&&◌, List, [], ◌∷◌, length, map, Option, Some, None, slice_get, refl, ap, ◌∙◌, arith, nat_eq}
 use Rattle.surf_lattice.specs.declared.site.Site.{Site}
-use Rattle.surf_lattice.specs.Grids.{Grid, neighbour, degree, directions, place}
+use Rattle.surf_lattice.specs.Grids.{Grid, neighbour, degree, place}
 use Rattle.surf_world.specs.declared.event.Event.{Event}
 use Rattle.surf_world.specs.Systems.{Rule, Surface}
 use Rattle.surf_world.specs.Choices.{is_name, inside_test, adjacent_test, holds_test, second_test, fits_test, enabled_test, event_of, events_on, events_toward, choices_at}
 use Rattle.surf_world.specs.Picks.{rate_of, weight_of}
-use Rattle.surf_world.proofs.Members.{same_filter, same_along}
+use Rattle.surf_world.proofs.Members.{same_along}
 
 -- the same name stands at a site
 abbrev pub SameAt : Grid → List ℕ → List ℕ → Site → Type 0

@@ -1,8 +1,8 @@
 -- A surface under other names has the same events, choices and runs.
 use Rattle.std.specs.Prelude.{All, IfSome, ◌↔◌, bytes_eq, nat_lt, ◌-◌, if◌then◌else◌}
-use Rattle.std.specs.List.{filter, flat_map, range_with_len, sum_by}
+use Rattle.std.specs.List.{range_with_len}
 use Rattle.std.specs.Option.{option_map, option_map_or}
-use Rattle.std.proofs.Common.{◌≡◌, ℕ, zero, suc, ◌+◌, ◌<◌, ◌≤◌, inl, inr, Bool, true, false, List, [], ◌∷◌, length, set, map, Option, Some, None, slice_get, get_or, refl, sym, ◌∙◌, ap, subst, arith, nat_eq}
+use Rattle.std.proofs.Common.{◌≡◌, ℕ, zero, suc, ◌<◌, inl, inr, Bool, true, List, [], ◌∷◌, length, set, map, Option, Some, None, slice_get, get_or, refl, sym, ◌∙◌, ap, subst, nat_eq}
 use Rattle.std.proofs.lemmas.Bool.{cases_Bool, false≢true}
 use Rattle.std.proofs.lemmas.List.{length-map}
 use Rattle.std.proofs.lemmas.List.Elements.{All-get_or, All-set}
@@ -12,11 +12,11 @@ use Rattle.surf_lattice.specs.Grids.{Grid, neighbour, directions, place, sites}
 use Rattle.std.proofs.lemmas.Slice.Eq.{bytes_eq-Decides}
 use Rattle.surf_rules.specs.Names.{text_of, AreDistinct}
 use Rattle.surf_world.specs.declared.event.Event.{Event}
-use Rattle.surf_world.specs.Systems.{Rule, Surface, Holds, FitsSecond, Fits, Enabled, after, with_rule, with_second, IsRun, left_by, Stuck}
+use Rattle.surf_world.specs.Systems.{Rule, Surface, FitsSecond, Fits, Enabled, after, with_rule, with_second, IsRun, left_by, Stuck}
 use Rattle.surf_world.specs.Choices.{enabled_test, event_of, events_on, events_toward, events_at, choices_at, choices}
-use Rattle.surf_world.specs.Picks.{rate_at, rate_of, pick, pick_of}
+use Rattle.surf_world.specs.Picks.{rate_of, pick, pick_of}
 use Rattle.surf_world.specs.Renamings.{renamed_rule, renamed, RuleBelow, AreBelow, IsOneToOne}
-use Rattle.surf_world.proofs.Tests.{enabled_to, enabled_from, number_to, number_from}
+use Rattle.surf_world.proofs.Decisions.{enabled_to, enabled_from, number_to, number_from}
 use Rattle.surf_world.proofs.Members.{same_filter, same_flat}
 
 map_set : {X Y : Type 0} (f : X → Y) (xs : List X) (i : ℕ) (a : X) → set (map f xs) i (f a) ≡ map f (set xs i a)

@@ -1,16 +1,16 @@
 -- What the loops over rules and directions keep of sums of rates.
-use Rattle.std.specs.Prelude.{All, Result, Ok, Err}
+use Rattle.std.specs.Prelude.{All, Result}
 use Rattle.std.specs.List.{filter, flat_map, range_with_len, sum_by}
 use Rattle.std.specs.Option.{option_map, option_map_or}
-use Rattle.std.proofs.Common.{ℕ, ◌≡◌, ◌+◌, ◌-◌, ◌*◌, ◌<◌, ◌≤◌, inl, inr, Bool, true, false, cond, append_assoc, List, [], ◌∷◌, ◌++◌, length, map, take, get_or, Option, Some, None, slice_get, refl, sym, ◌∙◌, ap, subst, arith, zero, suc, add-one}
+use Rattle.std.proofs.Common.{ℕ, ◌≡◌, ◌+◌, ◌-◌, ◌<◌, ◌≤◌, inl, inr, Bool, true, false, cond, append_assoc, List, [], ◌∷◌, ◌++◌, length, map, take, get_or, Option, Some, None, slice_get, refl, sym, ◌∙◌, ap, subst, arith, zero, suc}
 use Rattle.std.proofs.lemmas.Bool.{cases_lt, cases_eq}
 use Rattle.std.proofs.lemmas.List.Elements.{Contains-get_or}
 use Rattle.std.proofs.lemmas.List.{append-nil, length-map}
 use Rattle.std.proofs.lemmas.List.FromFn.{length-range_with_len}
 use Rattle.std.proofs.lemmas.List.Sums.{sum_by-cons, sum_by-append, sum_by_more}
-use Rattle.std.proofs.lemmas.Option.{slice_get-map, same_Some}
+use Rattle.std.proofs.lemmas.Option.{slice_get-map}
 use Rattle.surf_lattice.specs.declared.site.Site.{Site}
-use Rattle.surf_lattice.specs.Grids.{Grid, IsInside, Adjacent, neighbour, degree, directions, place}
+use Rattle.surf_lattice.specs.Grids.{Grid, IsInside, Adjacent, neighbour, degree}
 use Rattle.surf_lattice.specs.declared.site.GridKind.{GridKind}
 use Rattle.surf_lattice.specs.declared.site.GridKind.TheVariants.{Square, Hex}
 use Rattle.surf_lattice.proofs.Neighbours.{adjacent_from}
@@ -204,3 +204,12 @@ idle_more f d none here = directions_more f d ∙ ap (λ l. l ++ f d) none ∙ h
 
 pub idle_whole : {X Y : Type 0} (f : X → Y) (ks : List X) (alone : List Y) (toward : ℕ → List Y) (n d : ℕ) → alone ≡ map f ks → ks ≡ [] → d ≡ n → flat_map toward (range_with_len 0 d) ≡ [] → alone ++ flat_map toward (range_with_len 0 n) ≡ []
 idle_whole f ks alone toward n d is none same others = ap (λ l. l ++ flat_map toward (range_with_len 0 n)) (is ∙ ap (map f) none) ∙ ap (λ m. flat_map toward (range_with_len 0 m)) (sym same) ∙ others
+
+pub alone_sum : (S : Surface ℕ) (alone : List Event) (p : Site) (q : Option Site) (ks : List ℕ) (s : ℕ) → alone ≡ map (event_of p q) ks → s ≡ sum_by (rate_at S.rules) ks → s ≡ sum_by (rate_of S) alone + 0
+alone_sum S alone p q ks s is sum = let e = ap (sum_by (rate_of S)) is ∙ sum_of_events S p q ks in omega (arith, e, sum)
+
+pub alone_rest : {X : Type 0} (rate : X → ℕ) (alone es : List X) (rest r : ℕ) → alone ≡ es → sum_by rate es + rest ≡ r → sum_by rate alone + 0 + rest ≡ r
+alone_rest rate alone es rest r is before = let e = ap (sum_by rate) is in omega (arith, e, before)
+
+pub alone_picked : {X : Type 0} (rate : X → ℕ) (alone es others : List X) (r : ℕ) (x : X) → alone ≡ es → pick rate es r ≡ Some x → pick rate (alone ++ others) r ≡ Some x
+alone_picked rate alone es others r x is found = pick_some rate alone others r x (ap (λ l. pick rate l r) is ∙ found)

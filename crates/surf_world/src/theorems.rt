@@ -22,8 +22,7 @@ pub fn choice_laws()
     ensures picks { (S : Surface ℕ) (c : List ℕ) (r : ℕ) → r < sum_by (rate_of S) (choices nat_eq S c) → IsSome (pick_of nat_eq S c r) }
     ensures in_two_steps { (w : Placed) (i : ℕ) (p : Site) (rest : ℕ) (r : ℕ) → slice_get (sites w.surface.grid) i ≡ Some p → sum (take i (weights_of w)) + rest ≡ r → rest < weight_of w.surface w.names p → pick_of nat_eq w.surface w.names r ≡ pick (rate_of w.surface) (choices_at nat_eq w.surface w.names p) rest }
     ensures local { (S : Surface ℕ) (c : List ℕ) (e : Event) (ws : List ℕ) → Enabled S c e → ws ≡ map (weight_of S c) (sites S.grid) → refreshed S (after S c e) (around_event S.grid e) ws ≡ map (weight_of S (after S c e)) (sites S.grid) }
-{
-}
+{}
 
 /// The laws of renaming: a surface whose numbers become texts, each another one, keeps its
 /// events, runs and choices, and the texts of a list of distinct texts are such a renaming.
@@ -38,5 +37,4 @@ pub fn renaming_laws()
     ensures rates { (f : ℕ → List ℕ) (S : Surface ℕ) (e : Event) → rate_of (renamed f S) e ≡ rate_of S e }
     ensures picks { (f : ℕ → List ℕ) (n : ℕ) (S : Surface ℕ) (c : List ℕ) (r : ℕ) → IsOneToOne n f → AreBelow n S c → pick_of bytes_eq (renamed f S) (map f c) r ≡ pick_of nat_eq S c r }
     ensures texts { (ts : List (List ℕ)) → AreDistinct ts → IsOneToOne (length ts) (text_of ts) }
-{
-}
+{}

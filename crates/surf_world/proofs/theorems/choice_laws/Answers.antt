@@ -3,7 +3,7 @@ use Rattle.std.specs.Prelude.{IsSome}
 use Rattle.surf_lattice.specs.Grids.{sites}
 use Rattle.surf_world.specs.Choices.{choices_at, choices}
 use Rattle.surf_world.specs.Picks.{rate_of}
-use Rattle.surf_world.proofs.Tests.{number_to, number_from}
+use Rattle.surf_world.proofs.Decisions.{number_to, number_from}
 use Rattle.surf_world.proofs.Listed.{listed_enabled, enabled_listed, both_orders}
 use Rattle.surf_world.proofs.Laws.{weights_sum, pick_along}
 use Rattle.surf_world.proofs.Chosen.{pick_has, pick_below, rate_some, stuck_from_none, none_from_stuck}

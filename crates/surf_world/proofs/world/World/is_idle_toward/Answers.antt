@@ -1,4 +1,3 @@
-use Rattle.std.proofs.Common.{rules, nat_eq, length}
 use Rattle.surf_world.proofs.Sums.{toward_adjacent}
 use Rattle.surf_world.proofs.world.World.is_idle_toward.Goals as goal
 

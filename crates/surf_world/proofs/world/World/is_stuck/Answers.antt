@@ -1,7 +1,6 @@
-use Rattle.std.proofs.Common.{rules, arith, ℕ, ◌≡◌, ◌∙◌, ap, [], below_more, nat_eq, refl, sym}
+use Rattle.std.proofs.Common.{arith, ◌∙◌, nat_eq, refl, sym}
 use Rattle.std.proofs.lemmas.Bool.{false≢true}
-use Rattle.surf_world.specs.Choices.{choices_at}
-use Rattle.surf_world.proofs.Tests.{number_to, number_from}
+use Rattle.surf_world.proofs.Decisions.{number_to, number_from}
 use Rattle.surf_world.proofs.Listed.{stuck_idle, idle_stuck}
 use Rattle.surf_world.proofs.world.World.is_stuck.Goals as goal
 
@@ -11,6 +10,6 @@ returns-then-not-is_idle g c =
 
 pub returns : goal.returns
 returns g c = (
-    λ t. idle_stuck nat_eq number_to number_from c.args.self.now.surface c.args.self.now.names (λ k lt. c.loop-place.invariant k (omega (arith, lt, c.loop-place-test.false, c.site_count-place-end.ensures.sides))),
-    λ s. refl,
-  )
+  λ t. idle_stuck nat_eq number_to number_from c.args.self.now.surface c.args.self.now.names (λ k lt. c.loop-place.invariant k (omega (arith, lt, c.loop-place-test.false, c.site_count-place-end.ensures.sides))),
+  λ s. refl,
+)

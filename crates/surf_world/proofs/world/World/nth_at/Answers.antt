@@ -1,20 +1,15 @@
-use Rattle.std.proofs.Common.{rules, arith, ℕ, nat_eq, length, ◌≡◌, ◌+◌, ◌<◌, sum_by, ap, ◌∙◌, None}
+use Rattle.std.proofs.Common.{arith, ℕ, nat_eq, length, ◌≡◌, ap, ◌∙◌, None}
 use Rattle.surf_lattice.specs.Grids.{Grid, neighbour, degree}
 use Rattle.surf_world.specs.Choices.{enabled_test, events_on, events_toward}
-use Rattle.surf_world.specs.Picks.{rate_of, pick}
-use Rattle.surf_world.proofs.Laws.{pick_some}
-use Rattle.surf_world.proofs.Sums.{directions_sum, direction_found}
+use Rattle.surf_world.specs.Picks.{rate_of}
+use Rattle.surf_world.proofs.Sums.{directions_sum, direction_found, alone_picked, alone_rest}
 use Rattle.surf_world.proofs.world.World.nth_at.Goals as goal
 
 pub returns-in-Ok : goal.returns-in-Ok
-returns-in-Ok g c =
-    let S = c.args.self.now.surface in
-    pick_some (rate_of S) _ _ c.args.r c.in-Ok.event (ap (λ l. pick (rate_of S) l c.args.r) c.rules_at.ensures.events ∙ c.in-Ok.ensures)
+returns-in-Ok g c = alone_picked (rate_of c.args.self.now.surface) _ _ _ c.args.r c.in-Ok.event c.rules_at.ensures.events c.in-Ok.ensures
 
 pub loop-direction-init : goal.loop-direction-init
-loop-direction-init g c =
-    let events = ap (sum_by (rate_of c.args.self.now.surface)) c.rules_at.ensures.events in
-    omega (arith, events, c.in-Err.ensures)
+loop-direction-init g c = alone_rest (rate_of c.args.self.now.surface) _ _ c.in-Err.rest c.args.r c.rules_at.ensures.events c.in-Err.ensures
 
 pub loop-direction-preserved : goal.loop-direction-preserved
 loop-direction-preserved g c =

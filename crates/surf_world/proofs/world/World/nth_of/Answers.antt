@@ -1,4 +1,4 @@
-use Rattle.std.proofs.Common.{rules, arith, ap, ◌∙◌, ◌+◌, ◌≡◌, take, sum_by}
+use Rattle.std.proofs.Common.{rules, arith, ap, sum_by}
 use Rattle.std.proofs.lemmas.List.{take_all}
 use Rattle.surf_world.specs.Picks.{rate_at}
 use Rattle.surf_world.proofs.Sums.{known_at, rule_more, rule_picked, picked_event, sum_of_events}

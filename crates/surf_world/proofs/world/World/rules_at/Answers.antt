@@ -1,4 +1,4 @@
-use Rattle.std.proofs.Common.{arith, sym, subst, ◌≡◌, ◌≤◌, length, All, ◌<◌, ap}
+use Rattle.std.proofs.Common.{arith}
 use Rattle.surf_world.proofs.Agree.{alone_events}
 use Rattle.surf_world.proofs.Sums.{alone_known, alone_few}
 use Rattle.surf_world.proofs.world.World.rules_at.Goals as goal

@@ -1,4 +1,4 @@
-use Rattle.std.proofs.Common.{rules, arith}
+use Rattle.std.proofs.Common.{arith}
 use Rattle.surf_world.proofs.Sums.{known_at, rule_more}
 use Rattle.surf_world.proofs.world.World.sum_of.Goals as goal
 

@@ -1,8 +1,8 @@
-use Rattle.std.proofs.Common.{rules, arith, ℕ, nat_eq, length, ◌≡◌, ◌≤◌, ◌+◌, ◌*◌, sum_by, ap, ◌∙◌, None}
+use Rattle.std.proofs.Common.{arith, ℕ, nat_eq, length, ◌≡◌, ◌≤◌, ap, ◌∙◌, None}
 use Rattle.surf_lattice.specs.Grids.{Grid, neighbour, degree}
 use Rattle.surf_world.specs.Choices.{enabled_test, events_on, events_toward}
 use Rattle.surf_world.specs.Picks.{rate_of}
-use Rattle.surf_world.proofs.Sums.{sum_of_events, directions_sum, whole_sum, degree_small}
+use Rattle.surf_world.proofs.Sums.{alone_sum, directions_sum, whole_sum, degree_small}
 use Rattle.surf_world.proofs.world.World.weight_at.Goals as goal
 
 pub overflow_add-sum : goal.overflow_add-sum
@@ -11,13 +11,10 @@ overflow_add-sum g c =
     omega (arith, few, c.loop-direction-test.true, c.loop-direction.invariant.bound, c.weight_toward-sum.ensures.bound)
 
 pub loop-direction-init : goal.loop-direction-init
-loop-direction-init g c =
-    let S = c.args.self.now.surface in
-    let events = ap (sum_by (rate_of S)) c.rules_at.ensures.events ∙ sum_of_events S c.args.site None c.rules_at.result.now in
-    record {
-      sum = omega (arith, events, c.sum_of-sum.ensures.sum);
-      bound = omega (arith, c.sum_of-sum.ensures.bound);
-    }
+loop-direction-init g c = record {
+  sum = alone_sum c.args.self.now.surface _ c.args.site None c.rules_at.result.now c.sum_of-sum.result c.rules_at.ensures.events c.sum_of-sum.ensures.sum;
+  bound = omega (arith, c.sum_of-sum.ensures.bound);
+}
 
 pub loop-direction-preserved : goal.loop-direction-preserved
 loop-direction-preserved g c =

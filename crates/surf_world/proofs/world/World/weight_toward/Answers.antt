@@ -1,4 +1,4 @@
-use Rattle.std.proofs.Common.{rules, arith, nat_eq, ap, sym, ◌∙◌, length, sum_by}
+use Rattle.std.proofs.Common.{nat_eq, ap, sym, ◌∙◌, length, sum_by}
 use Rattle.surf_world.specs.Choices.{enabled_test}
 use Rattle.surf_world.specs.Picks.{rate_of}
 use Rattle.surf_world.proofs.Sums.{toward_adjacent, toward_events, toward_nothing, sum_of_events}

@@ -1,10 +1,10 @@
 -- The tests say what the facts say, for any kind of name whose test is equality.
-use Rattle.std.proofs.Common.{ℕ, ◌≡◌, ◌+◌, ◌*◌, ◌<◌, ◌≤◌, Bool, true, false, ◌&&◌, List, [], ◌∷◌, length, Option, Some, None, slice_get, refl, sym, ◌∙◌, ap, subst, arith, ◌↔◌, ⊎_elim, inl, inr, nat_eq, nat_lt, zero, suc}
+use Rattle.std.proofs.Common.{ℕ, ◌≡◌, ◌+◌, ◌<◌, ◌≤◌, Bool, true, false, List, Option, Some, None, slice_get, refl, ap, arith, ◌↔◌, ⊎_elim, inl, inr, nat_eq, zero, suc}
 use Rattle.std.specs.List.{list_any, range_with_len}
 use Rattle.std.proofs.lemmas.Bool.{cases_eq, and_parts, and_from, or_cases, ltb-true, lt-ltb, eqb-true, eq-eqb, false≢true, cases_Bool}
 use Rattle.std.proofs.Math.Bool.{or-true}
 use Rattle.surf_lattice.specs.declared.site.Site.{Site}
-use Rattle.surf_lattice.specs.Grids.{Grid, IsInside, Adjacent, neighbour, degree, directions, place}
+use Rattle.surf_lattice.specs.Grids.{Grid, IsInside, Adjacent, neighbour, degree}
 use Rattle.surf_world.specs.declared.event.Event.{Event}
 use Rattle.surf_world.specs.Systems.{Rule, Surface, Holds, FitsSecond, Fits, Enabled}
 use Rattle.surf_world.specs.Choices.{inside_test, is_site, adjacent_test, is_name, holds_test, second_test, fits_test, enabled_test}
@@ -57,7 +57,7 @@ pub adjacent_from : (g : Grid) (p q : Site) → Adjacent g p q → adjacent_test
 adjacent_from g p q a =
     let lt = a.listed in
     and_from _ _ (inside_from g p a.first) (and_from _ _ (inside_from g q a.second)
-        (any_from (λ i. is_site (neighbour g p i) q) 0 (degree g.kind) a.direction (omega arith) (omega (arith, lt)) (site_from (neighbour g p a.direction) q a.moves)))
+    (any_from (λ i. is_site (neighbour g p i) q) 0 (degree g.kind) a.direction (omega arith) (omega (arith, lt)) (site_from (neighbour g p a.direction) q a.moves)))
 
 module _ {N : Type 0} (eq : N → N → Bool) (to : (a b : N) → eq a b ≡ true → a ≡ b) (from : (a : N) → eq a a ≡ true) where
   name_to : (o : Option N) (b : N) → is_name eq o b ≡ true → o ≡ Some b
