@@ -1,14 +1,15 @@
 -- The events of a simulation are a run, and the same under other names.
-use Rattle.std.proofs.Common.{ℕ, ◌≡◌, ◌+◌, ◌<◌, ◌≤◌, ◌%◌, ◌⊎◌, inl, inr, List, [], ◌∷◌, length, map, sum_by, nat_eq, Bool, Option, Some, None, refl, sym, ◌∙◌, ap, subst, arith, zero, suc}
+use Rattle.std.proofs.Common.{ℕ, ◌≡◌, ◌+◌, ◌<◌, ◌≤◌, ◌⊎◌, inl, inr, List, [], ◌∷◌, length, map, sum_by, nat_eq, Bool, Option, Some, None, refl, sym, ◌∙◌, ap, subst, arith, zero, suc}
 use Rattle.std.specs.Prelude.{bytes_eq}
 use Rattle.std.specs.List.{Contains}
 use Rattle.std.specs.Option.{option_map}
 use Rattle.std.proofs.Math.Path.{fun_ext}
+use Rattle.std.proofs.lemmas.List.Sums.{sum_by-cons}
 use Rattle.rand_core.specs.Stream.{Stream}
 use Rattle.surf_world.specs.declared.event.Event.{Event}
 use Rattle.surf_world.specs.Systems.{Surface, Enabled, after, IsRun, left_by, Stuck}
 use Rattle.surf_world.specs.Choices.{choices}
-use Rattle.surf_world.specs.Picks.{rate_of, pick}
+use Rattle.surf_world.specs.Picks.{rate_of}
 use Rattle.surf_world.specs.Renamings.{renamed, AreBelow, IsOneToOne}
 use Rattle.surf_world.proofs.Members.{has_here}
 use Rattle.surf_world.proofs.Listed.{listed_enabled}
@@ -32,8 +33,9 @@ drawn_below n s some = omega (arith, some)
 -- one of some events is next, where all have a rate
 next_listed : (rate : Event → ℕ) (x : Event) (xs : List Event) (s : Stream) → 0 < rate x → (e : Event) × (t : Stream) × (next_among rate (x ∷ xs) s ≡ Some (e, t)) × Contains (x ∷ xs) e
 next_listed rate x xs s some =
+    let whole : sum_by rate (x ∷ xs) ≡ rate x + sum_by rate xs = sum_by-cons rate x xs in
     let d = draw_below (sum_by rate (x ∷ xs)) s in
-    let h = pick_below rate (x ∷ xs) (draw_below (sum_by rate (x ∷ xs)) s).0 (drawn_below (sum_by rate (x ∷ xs)) s (omega (arith, some))) in
+    let h = pick_below rate (x ∷ xs) (draw_below (sum_by rate (x ∷ xs)) s).0 (drawn_below (sum_by rate (x ∷ xs)) s (omega (arith, some, whole))) in
     (h.0, d.1, ap (λ (o : Option Event). option_map (λ (f : Event). (f, (draw_below (sum_by rate (x ∷ xs)) s).1)) o) h.1, pick_has rate (x ∷ xs) (draw_below (sum_by rate (x ∷ xs)) s).0 h.0 h.1)
 
 enabled_of : (S : Surface ℕ) (c : List ℕ) (es : List Event) (e : Event) → choices nat_eq S c ≡ es → Contains es e → Enabled S c e
@@ -54,16 +56,28 @@ next_cases_of S c s (x ∷ xs) is =
 pub next_cases : (S : Surface ℕ) (c : List ℕ) (s : Stream) → ((next_of nat_eq S c s ≡ None) × Stuck S c) ⊎ Next nat_eq S c s
 next_cases S c s = next_cases_of S c s (choices nat_eq S c) refl
 
+none_some : (o : Option (Event × Stream)) (n : Event × Stream) → o ≡ None → o ≡ Some n → ⊥
+none_some o n none some = let both : None ≡ Some n = sym none ∙ some in cc
+
+same_event : (o : Option (Event × Stream)) (n m : Event × Stream) → o ≡ Some n → o ≡ Some m → n.0 ≡ m.0
+same_event o n m is other =
+    let both : Some n ≡ Some m = sym is ∙ other in
+    let same : n ≡ m = cc in
+    ap (λ (x : Event × Stream). x.0) same
+
 pub idle_stuck : (S : Surface ℕ) (c : List ℕ) (s : Stream) → next_of nat_eq S c s ≡ None → Stuck S c
-idle_stuck S c s none = elim (next_cases S c s) [ inl h ↦ h.1 | inr n ↦ (let no : None ≡ Some (n.event, n.words) = sym none ∙ n.is in absurd (cc)) ]
+idle_stuck S c s none = elim (next_cases S c s) [
+  | inl h ↦ h.1
+  | inr n ↦ absurd (none_some (next_of nat_eq S c s) (n.event, n.words) none n.is)
+]
 
 pub stuck_idle : (S : Surface ℕ) (c : List ℕ) (s : Stream) → Stuck S c → next_of nat_eq S c s ≡ None
 stuck_idle S c s stuck = ap (λ es. next_among (rate_of S) es s) (none_from_stuck S c stuck)
 
 pub next_enabled : (S : Surface ℕ) (c : List ℕ) (s t : Stream) (e : Event) → next_of nat_eq S c s ≡ Some (e, t) → Enabled S c e
 next_enabled S c s t e is = elim (next_cases S c s) [
-    inl h ↦ (let no : None ≡ Some (e, t) = sym h.0 ∙ is in absurd (cc))
-  | inr n ↦ (let same : Some (n.event, n.words) ≡ Some (e, t) = sym n.is ∙ is in let one : n.event ≡ e = cc in subst (Enabled S c) one n.enabled)
+  | inl h ↦ absurd (none_some (next_of nat_eq S c s) (e, t) h.0 is)
+  | inr n ↦ subst (Enabled S c) (same_event (next_of nat_eq S c s) (n.event, n.words) (e, t) n.is is) n.enabled
 ]
 
 pub no_events : {N : Type 0} (eq : N → N → Bool) (S : Surface N) (c : List N) (s : Stream) (n : ℕ) → next_of eq S c s ≡ None → sim_events eq S c s n ≡ []
@@ -76,14 +90,14 @@ one_event eq S c s t e n is = ap (λ o. event_then o (λ e t. sim_events eq S (a
 pub are_run : (S : Surface ℕ) (c : List ℕ) (s : Stream) (n : ℕ) → IsRun S c (sim_events nat_eq S c s n)
 are_run S c s zero = tt
 are_run S c s (suc n) = elim (next_cases S c s) [
-    inl h ↦ subst (IsRun S c) (sym (no_events nat_eq S c s (suc n) h.0)) tt
+  | inl h ↦ subst (IsRun S c) (sym (no_events nat_eq S c s (suc n) h.0)) tt
   | inr x ↦ subst (IsRun S c) (sym (one_event nat_eq S c s x.words x.event n x.is)) (x.enabled, are_run S (after S c x.event) x.words n)
 ]
 
 pub are_few : (S : Surface ℕ) (c : List ℕ) (s : Stream) (n : ℕ) → length (sim_events nat_eq S c s n) ≤ n
 are_few S c s zero = omega arith
 are_few S c s (suc n) = elim (next_cases S c s) [
-    inl h ↦ omega (arith, ap length (no_events nat_eq S c s (suc n) h.0))
+  | inl h ↦ omega (arith, ap length (no_events nat_eq S c s (suc n) h.0))
   | inr x ↦ omega (arith, ap length (one_event nat_eq S c s x.words x.event n x.is), are_few S (after S c x.event) x.words n)
 ]
 
@@ -94,7 +108,7 @@ EndsStuck S c n es = length es < n → Stuck S (left_by S c es)
 pub ends_stuck : (S : Surface ℕ) (c : List ℕ) (s : Stream) (n : ℕ) → EndsStuck S c n (sim_events nat_eq S c s n)
 ends_stuck S c s zero = λ less. absurd (omega (arith, less))
 ends_stuck S c s (suc n) = elim (next_cases S c s) [
-    inl h ↦ subst (EndsStuck S c (suc n)) (sym (no_events nat_eq S c s (suc n) h.0)) (λ less. h.1)
+  | inl h ↦ subst (EndsStuck S c (suc n)) (sym (no_events nat_eq S c s (suc n) h.0)) (λ less. h.1)
   | inr x ↦ subst (EndsStuck S c (suc n)) (sym (one_event nat_eq S c s x.words x.event n x.is)) (λ less. ends_stuck S (after S c x.event) x.words n (omega (arith, less)))
 ]
 

@@ -1,3 +1,3 @@
-pub mod Refresh
+pub mod Weights
 pub mod Steps
 pub mod Events
