@@ -1,3 +1,4 @@
+mod Worked
 pub mod StepLemmas
 pub mod WellFormed
 pub mod Good
@@ -11,3 +12,4 @@ pub mod RowLemmas
 pub mod ReadingLemmas
 pub mod Counts
 pub mod Runs
+pub mod Manifests
