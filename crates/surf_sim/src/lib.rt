@@ -13,3 +13,6 @@ mod theorems;
 
 pub use sim::Sim;
 pub use theorems::simulation_laws;
+
+#[cfg(test)]
+mod tests;
