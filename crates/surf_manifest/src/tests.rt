@@ -3,11 +3,14 @@ use std::test::Fail;
 use surf_lattice::{Grid, GridKind, Lattice, Site};
 use surf_rules::{Names, Rule};
 
-const SMALL: &[u8] = b"!START_TRANSITION_RULES\n(1) A + B -> C + D\n!END_TRANSITION_RULES\n!START_INIT_STATE\nA B\n!END_INIT_STATE\n";
+const SMALL: &[u8] =
+    b"!START_TRANSITION_RULES\n(1) A + B -> C + D\n!END_TRANSITION_RULES\n!START_INIT_STATE\nA B\n!END_INIT_STATE\n";
 
-const RAGGED: &[u8] = b"!START_TRANSITION_RULES\n!END_TRANSITION_RULES\n!START_INIT_STATE\nA B\n % a comment\r\nA\n!END_INIT_STATE\n";
+const RAGGED: &[u8] =
+    b"!START_TRANSITION_RULES\n!END_TRANSITION_RULES\n!START_INIT_STATE\nA B\n % a comment\r\nA\n!END_INIT_STATE\n";
 
-const OPTIONS: &[u8] = b"# Run settings\nspeed=10 = x\ngeometry = Hex\n!START_TRANSITION_RULES\n(0.50) 1 -> 0\r\n!END_TRANSITION_RULES\n!START_INIT_STATE\n0 1   0\n!END_INIT_STATE\n!START_COLORMAP\n1: (255, 0, 0)\n!END_COLORMAP";
+const OPTIONS: &[u8] =
+    b"# Run settings\nspeed=10 = x\ngeometry = Hex\n!START_TRANSITION_RULES\n(0.50) 1 -> 0\r\n!END_TRANSITION_RULES\n!START_INIT_STATE\n0 1   0\n!END_INIT_STATE\n!START_COLORMAP\n1: (255, 0, 0)\n!END_COLORMAP";
 
 #[test]
 fn reads(rt: HostRuntime) -> Result<(), Fail> {
