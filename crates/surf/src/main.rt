@@ -1,0 +1,4 @@
+//! The program `surf`, over the real streams.
+#![tactic(auto)]
+
+fn main() {}
