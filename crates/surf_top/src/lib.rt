@@ -7,12 +7,13 @@
 
 mod events;
 mod job;
-mod note;
 mod print;
+mod reasons;
 mod run;
 mod status;
 mod top;
 
 pub use job::Job;
+pub use reasons::note;
 pub use status::{Refusal, Status};
 pub use top::surf;

@@ -6,7 +6,7 @@ ghost use Rattle.surf_top.specs.Outputs.{job_of};
 
 use crate::{Job, Status};
 use crate::job::read_job;
-use crate::note::note;
+use crate::reasons::note;
 use crate::run::run;
 use std::alloc::Global;
 use surf_base::{ReadAllError, Sink, Source, read_all};

@@ -2,7 +2,7 @@ use Rattle.std.proofs.Common.{ℕ, Option, sym, subst}
 use Rattle.surf_base.specs.declared.outside.WriteFault.{WriteFault}
 use Rattle.surf_base.specs.Emits.{Emits}
 use Rattle.surf_top.specs.Notes.{number_text}
-use Rattle.surf_top.proofs.note.put_some.Goals as goal
+use Rattle.surf_top.proofs.reasons.put_some.Goals as goal
 
 pub returns-in-Some : goal.returns-in-Some
 returns-in-Some g c =

@@ -1,7 +1,7 @@
 use Rattle.std.proofs.Common.{ℕ}
 use Rattle.surf_top.specs.Notes.{number_text}
 use Rattle.surf_base.proofs.EmitLemmas.{after_whole, cut_first}
-use Rattle.surf_top.proofs.note.put_words.Goals as goal
+use Rattle.surf_top.proofs.reasons.put_words.Goals as goal
 
 pub returns-in-Ok : goal.returns-in-Ok
 returns-in-Ok g c = after_whole _ _ _ _ _ _ _ _ _ c.args.words.now (number_text c.args.number) _ c.in-Ok.ensures.whole c.put.ensures.later c.put_some.ensures

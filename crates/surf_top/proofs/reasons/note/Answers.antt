@@ -1,7 +1,7 @@
 use Rattle.std.proofs.Common.{sym, subst}
 use Rattle.surf_top.specs.Notes.{note_of, Notes}
 use Rattle.surf_top.specs.declared.status.Status.{Status}
-use Rattle.surf_top.proofs.note.note.Goals as goal
+use Rattle.surf_top.proofs.reasons.note.Goals as goal
 
 pub returns-in-Usage : goal.returns-in-Usage
 returns-in-Usage g c = subst (λ (s : Status). Notes (g.N.Sink.written c.args.notes.now) (g.N.Sink.written c.send.new.notes) (g.N.Sink.faults c.args.notes.now) (g.N.Sink.faults c.send.new.notes) (note_of s)) (sym c.in-Usage.is) c.send.ensures
