@@ -35,7 +35,11 @@ pub struct Draft {
     pub colours: Vec<Text>,
 }
 
-const RULE_LIMIT: usize = 1_048_576;
+/// The most rules that a manifest has.
+pub const RULE_LIMIT: usize = 1_048_576;
+
+/// The most sites that a manifest has.
+pub const SITE_LIMIT: usize = 33_554_432;
 
 // A copy of some bytes as a text.
 fn text(alloc: Global, bytes: &[u8]) -> Result<Text, NoMemory>
