@@ -1,0 +1,15 @@
+//! Tests over the top call, and over several crates at once.
+//!
+//! The expected texts were written by hand or computed apart from the program.
+#![tactic(auto)]
+
+#[cfg(test)]
+mod calling;
+#[cfg(test)]
+mod faults;
+#[cfg(test)]
+mod pickers;
+#[cfg(test)]
+mod refusals;
+#[cfg(test)]
+mod runs;
