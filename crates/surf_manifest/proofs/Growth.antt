@@ -1,6 +1,7 @@
 -- Lists of texts that grow keep what their numbers name.
-use Rattle.std.proofs.Common.{ℕ, zero, suc, ◌≡◌, ◌+◌, ◌<◌, ◌≤◌, List, [], ◌∷◌, ◌++◌, length, map, refl, sym, ◌∙◌, ap, arith, Bool, true, false, Option, Some, None, slice_get, unwrap_or, if◌then◌else◌, length-append, All, IfSome, get_or}
-use Rattle.std.specs.List.{list_any}
+use Rattle.std.proofs.Common.{ℕ, zero, suc, ◌≡◌, ◌+◌, ◌<◌, ◌≤◌, List, [], ◌∷◌, ◌++◌, length, map, refl, sym, subst, ◌∙◌, ap, arith, Bool, true, false, Option, Some, None, slice_get, unwrap_or, if◌then◌else◌, length-append, All, IfSome, get_or, ◌&&◌}
+use Rattle.std.specs.List.{list_all, list_any}
+use Rattle.std.proofs.lemmas.List.Folds.{list_all-append}
 use Rattle.std.specs.Option.{option_map}
 use Rattle.std.specs.Str.{bytes_eq}
 use Rattle.std.proofs.lemmas.List.Elements.{All-append}
@@ -10,6 +11,8 @@ use Rattle.surf_rules.specs.Names.{text_of, with_text}
 use Rattle.surf_rules.specs.declared.rule.Rule.{Rule}
 use Rattle.surf_world.specs.Renamings.{RuleBelow}
 use Rattle.surf_world.specs.Worlds.{rule_of}
+use Rattle.surf_manifest.specs.Item.{is_name}
+use Rattle.surf_manifest.proofs.WellFormed.{both}
 use Rattle.surf_manifest.specs.Drafts.{IsGrown, named_rule, RulesBelow, NamesBelow}
 
 front_kept : (ts us : List (List ℕ)) (k : ℕ) → k < length ts → slice_get (ts ++ us) k ≡ slice_get ts k
@@ -23,6 +26,9 @@ grown_if false ts t = record { longer = omega (arith, length-append ts (t ∷ []
 
 pub grown_with : (ts : List (List ℕ)) (t : List ℕ) → IsGrown 1 ts (with_text ts t)
 grown_with ts t = grown_if (list_any (bytes_eq t) ts) ts t
+
+pub grown_by : (a b : List (List ℕ)) (t : List ℕ) → b ≡ with_text a t → IsGrown 1 a b
+grown_by a b t is = subst (λ v. IsGrown 1 a v) (sym is) (grown_with a t)
 
 pub grown_then : (m n : ℕ) (a b c : List (List ℕ)) → IsGrown m a b → IsGrown n b c → IsGrown (m + n) a c
 grown_then m n a b c g h = record {
@@ -83,3 +89,11 @@ pub rules_kept : (n : ℕ) (a b : List (List ℕ)) (rs : List Rule) → IsGrown 
 rules_kept n a b [] g h = refl
 rules_kept n a b (r ∷ rs) g h =
     rw (rule_kept n a b r g (all_head (λ r. RuleBelow (length a) (rule_of r)) r rs h), rules_kept n a b rs g (all_tail (λ r. RuleBelow (length a) (rule_of r)) r rs h)) refl
+
+-- texts that are names
+texts_if : (b : Bool) (ts : List (List ℕ)) (t : List ℕ) → list_all is_name ts ≡ true → is_name t ≡ true → list_all is_name (if b then ts else ts ++ t ∷ []) ≡ true
+texts_if true ts t h e = h
+texts_if false ts t h e = list_all-append is_name ts (t ∷ []) ∙ both (list_all is_name ts) (is_name t && true) h (both (is_name t) true e refl)
+
+pub texts_with : (ts : List (List ℕ)) (t : List ℕ) → list_all is_name ts ≡ true → is_name t ≡ true → list_all is_name (with_text ts t) ≡ true
+texts_with ts t h e = texts_if (list_any (bytes_eq t) ts) ts t h e

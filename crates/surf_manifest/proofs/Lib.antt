@@ -11,3 +11,4 @@ pub mod RowLemmas
 pub mod ReadingLemmas
 pub mod Counts
 pub mod Runs
+pub mod Manifests

@@ -1,5 +1,5 @@
 -- What the grammar reads is well formed.
-use Rattle.std.proofs.Common.{ℕ, ◌≡◌, ◌<◌, ◌≤◌, List, [], ◌∷◌, length, map, filter, codes, refl, sym, ◌∙◌, ap, arith, Bool, true, false, not, ◌&&◌, ◌||◌, ◌==◌, Option, Some, None, Result, Ok, Err, if◌then◌else◌, ⊎_elim}
+use Rattle.std.proofs.Common.{ℕ, ◌≡◌, ◌<◌, ◌≤◌, List, [], ◌∷◌, length, map, filter, codes, refl, sym, ◌∙◌, ap, arith, Bool, true, false, not, ◌&&◌, ◌||◌, ◌==◌, nat_le, Option, Some, None, Result, Ok, Err, if◌then◌else◌, subst, ⊎_elim}
 use Rattle.std.specs.List.{list_all, slice_split, onto_first}
 use Rattle.std.specs.Char.{to_ascii_lowercase}
 use Rattle.std.specs.Str.{bytes_eq}
@@ -10,7 +10,7 @@ use Rattle.surf_manifest.specs.declared.error.ManifestError.TheVariants.{BadLine
 use Rattle.surf_lattice.specs.declared.site.GridKind.TheVariants.{Square, Hex}
 use Rattle.surf_manifest.specs.Bytes.{is_blank, is_filled, is_word, tokens_of, without_front, without_end, unless_last, trimmed, before, after, lacks}
 use Rattle.surf_manifest.specs.Line.{Line, Skipped, Opens, Closes, Includes, Unknown, Content, is_comment_sign, is_include, mark_of, line_of_text, line_of}
-use Rattle.surf_manifest.specs.Item.{Item, Geometry, Wrap, Kept, Rule, Row, Colour, is_name, item_of, option_from, setting_of, geometry_of, wrap_of, bracketed_rule, rated_rule, rule_of_tokens, rule_found, rule_from, rate_of, one_test, two_test}
+use Rattle.surf_manifest.specs.Item.{Item, Geometry, Wrap, Kept, Rule, Row, Colour, is_name, item_of, option_from, setting_of, geometry_of, wrap_of, bracketed_rule, rated_rule, rule_of_tokens, rule_found, rule_from, rate_of, rule_line_of, one_test, two_test}
 use Rattle.surf_manifest.specs.WellFormed.{begins_content, is_text, is_option, is_colour, is_rule}
 use Rattle.surf_manifest.specs.declared.line.BlockKind.{BlockKind}
 use Rattle.surf_world.specs.Systems as systems
@@ -247,6 +247,17 @@ token_first b (t ∷ ts) = omega arith
 some_token : (b : ℕ) (bs : List ℕ) → is_blank b ≡ false → 0 < length (tokens_of (b ∷ bs))
 some_token b bs h = rw h (token_first b (slice_split is_blank bs))
 
+-- a rule of a line
+rule_line_holds : (n : ℕ) (t : List ℕ) → ResultHeld (rule_line_of n t)
+rule_line_holds n [] = record { is = tt }
+rule_line_holds n (c ∷ cs) = if_holds (c == 40) _ _ (λ _. bracket_holds n (before 41 cs) (after 41 cs)) (λ _. rule_holds n 1000000 (tokens_of (c ∷ cs)) (omega arith))
+
+held_rule : (r : Result Item ManifestError) (x : systems.Rule (List ℕ)) → r ≡ Ok (Rule x) → ResultHolds r → is_rule x ≡ true
+held_rule r x e h = let P : Result Item ManifestError → Type 0 = ResultHolds in subst P e h
+
+pub line_rule : (n : ℕ) (t : List ℕ) (x : systems.Rule (List ℕ)) → rule_line_of n t ≡ Ok (Rule x) → is_rule x ≡ true
+line_rule n t x e = held_rule (rule_line_of n t) x e (rule_line_holds n t).is
+
 pub item_holds : (n : ℕ) (block : Option BlockKind) (t : List ℕ) → begins_content t ≡ true → is_text t ≡ true → ResultHeld (item_of n block t)
 item_holds n block [] b h = cc
 item_holds n None (c ∷ cs) b h =
@@ -260,3 +271,25 @@ item_holds n (Some State) (c ∷ cs) b h =
     let filled = front_head is_blank c cs ((bytes_eq-Decides (without_front is_blank (c ∷ cs)) (c ∷ cs)).0 p.0) in
     if_holds (list_all is_name (tokens_of (c ∷ cs))) _ _ (λ e. record { is = (e, some_token c cs filled) }) (λ _. record { is = tt })
 item_holds n (Some Colormap) (c ∷ cs) b h = record { is = both (begins_content (c ∷ cs)) (is_text (c ∷ cs)) b h }
+
+-- the names of a rule
+pub one_names : (rate : ℕ) (a c : List ℕ) → is_rule (record { rate = rate; left = a; right = None; left_after = c; right_after = None }) ≡ true → (is_name a && is_name c) ≡ true
+one_names rate a c h =
+    let p = and_parts (nat_le rate 1000000000000) (is_name a && (is_name c && true)) h in
+    let q = and_parts (is_name a) (is_name c && true) p.1 in
+    both (is_name a) (is_name c) q.0 (and_parts (is_name c) true q.1).0
+
+two_parts : (rate : ℕ) (a b c d : List ℕ) → is_rule (record { rate = rate; left = a; right = Some b; left_after = c; right_after = Some d }) ≡ true
+    → ((is_name a && is_name b) ≡ true) × ((is_name c && is_name d) ≡ true)
+two_parts rate a b c d h =
+    let p = and_parts (nat_le rate 1000000000000) (is_name a && (is_name c && (is_name b && is_name d))) h in
+    let q = and_parts (is_name a) (is_name c && (is_name b && is_name d)) p.1 in
+    let r = and_parts (is_name c) (is_name b && is_name d) q.1 in
+    let s = and_parts (is_name b) (is_name d) r.1 in
+    (both (is_name a) (is_name b) q.0 s.0, both (is_name c) (is_name d) r.0 s.1)
+
+pub first_names : (rate : ℕ) (a b c d : List ℕ) → is_rule (record { rate = rate; left = a; right = Some b; left_after = c; right_after = Some d }) ≡ true → (is_name a && is_name b) ≡ true
+first_names rate a b c d h = (two_parts rate a b c d h).0
+
+pub second_names : (rate : ℕ) (a b c d : List ℕ) → is_rule (record { rate = rate; left = a; right = Some b; left_after = c; right_after = Some d }) ≡ true → (is_name c && is_name d) ≡ true
+second_names rate a b c d h = (two_parts rate a b c d h).1

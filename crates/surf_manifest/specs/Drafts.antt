@@ -1,11 +1,13 @@
 -- What a draft stands for. Its rules and its start are numbers of its names.
-use Rattle.std.specs.Prelude.{◌≡◌, ℕ, ◌+◌, ◌*◌, ◌^◌, ◌<◌, ◌≤◌, List, length, map, All, slice_get}
+use Rattle.std.specs.Prelude.{◌≡◌, ℕ, ◌+◌, ◌*◌, ◌^◌, ◌<◌, ◌≤◌, List, length, map, All, slice_get, true}
+use Rattle.std.specs.List.{list_all}
 use Rattle.surf_rules.specs.Names.{text_of}
 use Rattle.surf_rules.specs.declared.rule.Rule.{Rule}
 use Rattle.surf_world.specs.Renamings.{renamed_rule, RuleBelow}
 use Rattle.surf_world.specs.Systems as systems
 use Rattle.surf_world.specs.Worlds.{rule_of}
 use Rattle.surf_manifest.specs.declared.draft.Draft.{Draft}
+use Rattle.surf_manifest.specs.Item.{is_name}
 use Rattle.surf_manifest.specs.Limits.{Held}
 use Rattle.surf_manifest.specs.Line.{Line, Skipped, Opens, Closes, Includes, Unknown, Content}
 
@@ -39,8 +41,9 @@ held_by d = record {
   colours = d.colours.items;
 }
 
--- the numbers are in range, and rules, sites and names within the limits
+-- the texts are names, the numbers are in range, and rules, sites and names within the limits
 pub record IsDraft (d : Draft) : Type 0 where
+  pub texts : list_all is_name d.names ≡ true
   pub rules : RulesBelow (length d.names) d.rules.items
   pub start : NamesBelow (length d.names) d.start.items
   pub few_rules : length d.rules.items ≤ 1048576

@@ -1,5 +1,5 @@
 -- Systems whose names are numbers in a list of texts.
-use Rattle.std.specs.Prelude.{ℕ, ◌≡◌, List, length}
+use Rattle.std.specs.Prelude.{ℕ, ◌≡◌, List, length, slice_set}
 use Rattle.surf_rules.specs.Names.{text_of, AreDistinct}
 use Rattle.surf_world.specs.Systems.{System}
 use Rattle.surf_world.specs.Renamings.{renamed_system, AreBelow}
@@ -16,3 +16,18 @@ pub record IsNumbered (S : System (List ℕ)) (w : Placed) (texts : List (List �
 pub record NamedManifest : Type 0 where
   pub text : ManifestText
   pub names : List (List ℕ)
+
+-- the same with another start
+abbrev pub with_start : NamedManifest → List (List ℕ) → NamedManifest
+with_start m start = record {
+  text = record {
+    system = record { surface = m.text.system.surface; start = start };
+    options = m.text.options;
+    colormap = m.text.colormap;
+  };
+  names = m.names;
+}
+
+-- the same with this text at a place of its start
+abbrev pub with_site : NamedManifest → ℕ → List ℕ → NamedManifest
+with_site m k t = with_start m (slice_set m.text.system.start k t)

@@ -1,10 +1,11 @@
 // The parts of a manifest that were read so far.
-ghost use Rattle.std.specs.Prelude.{◌≡◌, ◌<◌, ◌^◌, IfOk, MatchResult, length};
+ghost use Rattle.std.specs.Prelude.{◌≡◌, ◌<◌, ◌^◌, IfOk, MatchResult, length, true};
 ghost use Rattle.surf_manifest.specs.Answers.{Refuses};
 ghost use Rattle.surf_manifest.specs.Drafts.{HasRoom, IsDraft, held_by};
 ghost use Rattle.surf_manifest.specs.Item.{Colour, Kept, item_of, option_of, rule_line_of};
 ghost use Rattle.surf_manifest.specs.Limits.{at_start, holding, item_step, with_rule};
 ghost use Rattle.surf_manifest.specs.Said.{rule_of_line};
+ghost use Rattle.surf_manifest.specs.WellFormed.{is_rule};
 
 use crate::error::ManifestError;
 use crate::line::BlockKind;
@@ -92,6 +93,7 @@ impl Draft {
     /// Adds a rule, which is kept within the limit.
     pub fn add_rule(&mut self, line: &RuleLine<'_>) -> Result<(), NoMemory>
         requires draft { IsDraft self.old }
+        requires rule { is_rule (rule_of_line line.now) ≡ true }
         requires counted { self.old.rule_count < 2 ^ 63 }
         ensures draft { IfOk result (λ _. IsDraft self.new) }
         ensures held { IfOk result (λ _. held_by self.new ≡ with_rule (held_by self.old) (rule_of_line line.now)) }

@@ -1,6 +1,7 @@
 //! The grammar of manifests: what a text means, or its first fault.
 #![tactic(auto)]
 
+mod assembly;
 mod draft;
 mod error;
 mod laws;
@@ -17,6 +18,7 @@ mod reading;
 mod rule_lines;
 mod texts;
 mod words;
+mod worlds;
 
 pub use draft::Draft;
 pub use error::{Block, ManifestError};

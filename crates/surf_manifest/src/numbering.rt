@@ -1,7 +1,10 @@
 // Rules over the numbers of their names.
-ghost use Rattle.std.specs.Prelude.{◌-◌, ◌<◌, ◌≡◌, ◌^◌, IfOk, Some, length, slice_get};
+ghost use Rattle.std.specs.List.{list_all};
+ghost use Rattle.std.specs.Prelude.{◌&&◌, ◌-◌, ◌<◌, ◌≡◌, ◌^◌, IfOk, Some, length, slice_get, true};
 ghost use Rattle.surf_manifest.specs.Drafts.{IsGrown, named_rule};
+ghost use Rattle.surf_manifest.specs.Item.{is_name};
 ghost use Rattle.surf_manifest.specs.Said.{rule_of_line};
+ghost use Rattle.surf_manifest.specs.WellFormed.{is_rule};
 ghost use Rattle.surf_world.specs.Renamings.{RuleBelow};
 ghost use Rattle.surf_world.specs.Worlds.{rule_of};
 
@@ -10,7 +13,10 @@ use surf_base::NoMemory;
 use surf_rules::{Names, Rule};
 
 fn intern_two(names: &mut Names, a: &[u8], b: &[u8]) -> Result<(u32, u32), NoMemory>
-    requires { length names.old < 2 ^ 32 - 2 }
+    requires room { length names.old < 2 ^ 32 - 2 }
+    requires names { (is_name a.now && is_name b.now) ≡ true }
+    requires texts { list_all is_name names.old ≡ true }
+    ensures texts { IfOk result (λ _. list_all is_name names.new ≡ true) }
     ensures first { IfOk result (λ p. slice_get names.new p.0 ≡ Some a.now) }
     ensures second { IfOk result (λ p. slice_get names.new p.1 ≡ Some b.now) }
     ensures grown { IfOk result (λ _. IsGrown 2 names.old names.new) }
@@ -22,7 +28,10 @@ fn intern_two(names: &mut Names, a: &[u8], b: &[u8]) -> Result<(u32, u32), NoMem
 
 /// The rule of a line, over numbers of `names`, which grow by at most four.
 pub fn numbered_rule(names: &mut Names, line: &RuleLine<'_>) -> Result<Rule, NoMemory>
-    requires { length names.old < 2 ^ 32 - 4 }
+    requires room { length names.old < 2 ^ 32 - 4 }
+    requires names { is_rule (rule_of_line line.now) ≡ true }
+    requires texts { list_all is_name names.old ≡ true }
+    ensures texts { IfOk result (λ _. list_all is_name names.new ≡ true) }
     ensures rule { IfOk result (λ r. named_rule names.new r ≡ rule_of_line line.now) }
     ensures below { IfOk result (λ r. RuleBelow (length names.new) (rule_of r)) }
     ensures grown { IfOk result (λ _. IsGrown 4 names.old names.new) }

@@ -19,6 +19,7 @@ impl Draft {
     // Adds a site of this name, which is kept within the limit.
     fn add_site(&mut self, name: &[u8]) -> Result<(), NoMemory>
         requires draft { IsDraft self.old }
+        requires name { is_name name.now ≡ true }
         requires counted { self.old.site_count < 2 ^ 63 }
         ensures draft { IfOk result (λ _. IsDraft self.new) }
         ensures held { IfOk result (λ _. held_by self.new ≡ with_names (held_by self.old) (name.now ∷ [])) }

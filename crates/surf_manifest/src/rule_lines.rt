@@ -1,9 +1,10 @@
 // Lines of the rule block.
-ghost use Rattle.std.specs.Prelude.{◌≡◌, ◌&&◌, MatchOption, MatchResult, None, Some, codes};
+ghost use Rattle.std.specs.Prelude.{◌≡◌, ◌&&◌, IfOk, MatchOption, MatchResult, None, Some, codes, true};
 ghost use Rattle.std.specs.Str.{bytes_eq};
 ghost use Rattle.surf_manifest.specs.Bytes.{after, before, tokens_of};
 ghost use Rattle.surf_manifest.specs.Item.{Rule, bracketed_rule, is_name, one_test, rule_from, rule_line_of, rule_of_tokens};
 ghost use Rattle.surf_manifest.specs.Said.{rule_of_line};
+ghost use Rattle.surf_manifest.specs.WellFormed.{is_rule};
 
 use crate::error::ManifestError;
 use crate::lines::next_token;
@@ -97,10 +98,15 @@ fn rated(number: u64, text: &[u8]) -> Result<(u64, &[u8]), ManifestError>
 
 /// The rule of the line of this number.
 pub fn rule_line(number: u64, text: &[u8]) -> Result<RuleLine<'_>, ManifestError>
-    ensures { MatchResult result (λ r. rule_line_of number text.now ≡ Ok (Rule (rule_of_line r))) (λ f. rule_line_of number text.now ≡ Err f) }
+    ensures value { MatchResult result (λ r. rule_line_of number text.now ≡ Ok (Rule (rule_of_line r))) (λ f. rule_line_of number text.now ≡ Err f) }
+    ensures rule { IfOk result (λ r. is_rule (rule_of_line r) ≡ true) }
 {
-    match rated(number, text) {
-        Ok((rate, rest)) => rule_tokens(rate, rest).ok_or(ManifestError::BadRule(number)),
-        Err(fault) => Err(fault),
+    let (rate, rest) = match rated(number, text) {
+        Ok(found) => found,
+        Err(fault) => return Err(fault),
+    };
+    match rule_tokens(rate, rest) {
+        Some(line) => Ok(line),
+        None => Err(ManifestError::BadRule(number)),
     }
 }

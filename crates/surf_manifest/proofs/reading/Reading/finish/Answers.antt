@@ -14,6 +14,7 @@ invariant_of-result c =
     let w : IsWellFormed m = c.requires.whole m (ap (λ o. unless_fault o (Ok m)) none) in
     record {
       well_formed = rw c.colormap.ensures w;
+      texts = c.requires.draft.texts;
       rules = c.requires.draft.rules;
       start = c.requires.draft.start;
     }
