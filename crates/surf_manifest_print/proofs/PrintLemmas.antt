@@ -1,9 +1,13 @@
 -- Texts that grow by lines, by names and by sides of rules.
-use Rattle.std.proofs.Common.{ℕ, zero, suc, ◌≡◌, ◌+◌, ◌-◌, ◌*◌, ◌<◌, ◌≤◌, List, [], ◌∷◌, ◌++◌, length, map, drop, take, codes, get_or, Option, Some, None, refl, sym, ◌∙◌, ap, arith, append-nil, append_assoc, drop-cons, add-one}
+use Rattle.std.proofs.Common.{ℕ, zero, suc, ◌≡◌, ◌+◌, ◌-◌, ◌*◌, ◌<◌, ◌≤◌, List, [], ◌∷◌, ◌++◌, length, map, drop, take, codes, get_or, Option, Some, None, Result, Ok, Err, OnOk, MatchOption, Bor, refl, sym, ◌∙◌, ap, arith, append-nil, append_assoc, subst, All, drop-cons, add-one}
 use Rattle.std.proofs.lemmas.List.{drop_all, take-map, drop-map}
+use Rattle.std.proofs.lemmas.List.Elements.{All-drop}
+use Rattle.std.specs.Option.{option_copied}
+use Rattle.std.proofs.Math.Nat.{mul-suc}
 use Rattle.surf_world.specs.Systems as systems
 use Rattle.surf_manifest.specs.Bytes.{ended, spaced, rows_of}
-use Rattle.surf_manifest_print.specs.Prints.{side_tokens, rule_tokens}
+use Rattle.surf_manifest_print.specs.Prints.{side_tokens, rule_tokens, geometry_text, wrap_text, option_text, rule_block, state_block, colour_lines, print_of}
+use Rattle.surf_manifest.specs.Grammar.{ManifestText}
 use Rattle.surf_manifest_print.specs.Rows.{after_blanks}
 
 pub drop_here : {X : Type 0} (xs : List X) (k : ℕ) (x : X) → k < length xs → x ≡ get_or xs k x → drop k xs ≡ x ∷ drop (k + 1) xs
@@ -66,3 +70,77 @@ sides_put r old a b new first arrow second =
     let y = spaced (side_tokens r.left_after r.right_after) in
     second ∙ (ap (λ v. v ++ y) (arrow ∙ ap (λ v. v ++ codes " -> ") first)
     ∙ (append_assoc (old ++ x) (codes " -> ") y ∙ (append_assoc old x (codes " -> " ++ y) ∙ ap (λ v. old ++ v) (sym (sides_spaced r.left r.right r.left_after r.right_after)))))
+
+-- three pieces, one after another
+pub three : (old x y z a b new : List ℕ) → a ≡ old ++ x → b ≡ a ++ y → new ≡ b ++ z → new ≡ old ++ (x ++ (y ++ z))
+three old x y z a b new first second third =
+    third ∙ (ap (λ v. v ++ z) (second ∙ ap (λ v. v ++ y) first) ∙ (append_assoc (old ++ x) y z ∙ append_assoc old x (y ++ z)))
+
+pub block : (start : List ℕ) (ts : List (List ℕ)) (end old a b new : List ℕ) → a ≡ old ++ (start ++ 10 ∷ []) → b ≡ a ++ ended ts → new ≡ b ++ (end ++ 10 ∷ [])
+    → new ≡ old ++ ended (start ∷ (ts ++ end ∷ []))
+block start ts end old a b new first second third =
+    three old (start ++ 10 ∷ []) (ended ts) (end ++ 10 ∷ []) a b new first second third
+    ∙ ap (λ v. old ++ v) (append_assoc start (10 ∷ []) (ended ts ++ (end ++ 10 ∷ [])) ∙ ap (λ v. start ++ 10 ∷ v) (sym (ended_more ts (end ∷ []))))
+
+pub on_ok : {T E : Type 0} {P Q : Type 0} (r : Result T E) → (P → Q) → OnOk r P → OnOk r Q
+on_ok (Ok x) f p = f p
+on_ok (Err e) f p = tt
+
+-- rows
+pub first_row : (w h k : ℕ) (f : ℕ → List ℕ) (ks : List ℕ) → k < h → rows_of w (h - k) (map f ks) ≡ map f (take w ks) ∷ rows_of w (h - (k + 1)) (map f (drop w ks))
+first_row w h k f ks lt =
+    let e : h - k ≡ suc (h - (k + 1)) = omega arith in
+    ap (λ n. rows_of w n (map f ks)) e
+    ∙ (ap (λ v. v ∷ rows_of w (h - (k + 1)) (drop w (map f ks))) (take-map f w ks)
+    ∙ ap (λ v. map f (take w ks) ∷ rows_of w (h - (k + 1)) v) (drop-map f w ks))
+
+pub rows_on : (w h k : ℕ) (f : ℕ → List ℕ) (ks row after : List ℕ) (old new whole : List ℕ) → k < h → row ≡ take w ks → after ≡ drop w ks → new ≡ old ++ (spaced (map f row) ++ 10 ∷ [])
+    → old ++ ended (map spaced (rows_of w (h - k) (map f ks))) ≡ whole → new ++ ended (map spaced (rows_of w (h - (k + 1)) (map f after))) ≡ whole
+rows_on w h k f ks row after old new whole lt front back is e =
+    let here : rows_of w (h - k) (map f ks) ≡ map f row ∷ rows_of w (h - (k + 1)) (map f after) =
+    first_row w h k f ks lt ∙ (ap (λ v. map f v ∷ rows_of w (h - (k + 1)) (map f (drop w ks))) (sym front) ∙ ap (λ v. map f row ∷ rows_of w (h - (k + 1)) (map f v)) (sym back)) in
+    line_on (spaced (map f row)) (map spaced (rows_of w (h - (k + 1)) (map f after))) old new whole is (ap (λ v. old ++ ended (map spaced v)) (sym here) ∙ e)
+
+pub sites_on : (w h k a b : ℕ) → k < h → b ≡ w * (h - k) → a + w ≡ b → a ≡ w * (h - (k + 1))
+sites_on w h k a b lt is e =
+    let n = h - (k + 1) in
+    let s : h - k ≡ suc n = omega arith in
+    let t : w * (h - k) ≡ w * n + w = ap (λ v. w * v) s ∙ mul-suc w n in
+    omega (arith, is, e, t)
+
+pub below_on : (n w : ℕ) (ks after : List ℕ) → after ≡ drop w ks → All (λ k. k < n) ks → All (λ k. k < n) after
+below_on n w ks after back h = subst (λ v. All (λ k. k < n) v) (sym back) (All-drop (λ k. k < n) w ks h)
+
+pub names_put : (f : ℕ → List ℕ) (x : ℕ) (ks row old a new : List ℕ) → row ≡ x ∷ ks → a ≡ old ++ f x → new ≡ a ++ after_blanks (map f ks) → new ≡ old ++ spaced (map f row)
+names_put f x ks row old a new whole first others =
+    let rest = after_blanks (map f ks) in
+    others ∙ (ap (λ v. v ++ rest) first ∙ (append_assoc old (f x) rest
+    ∙ (ap (λ v. old ++ v) (sym (spaced_first (f x) (map f ks))) ∙ ap (λ v. old ++ spaced (map f v)) (sym whole))))
+
+-- legends
+pub legend_put : (ins outs : List (List ℕ)) (events old a b new : List ℕ) → a ≡ old ++ ended ins → b ≡ a ++ ended outs → new ≡ b ++ (events ++ 10 ∷ [])
+    → new ≡ old ++ ended (ins ++ (outs ++ events ∷ []))
+legend_put ins outs events old a b new first second third =
+    three old (ended ins) (ended outs) (events ++ 10 ∷ []) a b new first second third
+    ∙ ap (λ v. old ++ v) (ap (λ v. ended ins ++ v) (sym (ended_more outs (events ∷ []))) ∙ sym (ended_more ins (outs ++ events ∷ [])))
+
+-- manifests
+pub then_lines : (xs ys : List (List ℕ)) (old a new : List ℕ) → a ≡ old ++ ended xs → new ≡ a ++ ended ys → new ≡ old ++ ended (xs ++ ys)
+then_lines xs ys old a new first second =
+    second ∙ (ap (λ v. v ++ ended ys) first ∙ (append_assoc old (ended xs) (ended ys) ∙ ap (λ v. old ++ v) (sym (ended_more xs ys))))
+
+pub manifest_put : (m : ManifestText) (old a b c d e new : List ℕ) → a ≡ old ++ (geometry_text m.system.surface.grid.kind ++ 10 ∷ []) → b ≡ a ++ (wrap_text m.system.surface.grid.wrap ++ 10 ∷ [])
+    → c ≡ b ++ ended (map option_text m.options) → d ≡ c ++ ended (rule_block m) → e ≡ d ++ ended (state_block m) → new ≡ e ++ ended (colour_lines m.colormap) → new ≡ old ++ print_of m None
+manifest_put m old a b c d e new p q r s t u =
+    let cs = colour_lines m.colormap in
+    let ss = state_block m in
+    let rs = rule_block m in
+    let os = map option_text m.options in
+    then_lines (geometry_text m.system.surface.grid.kind ∷ []) (wrap_text m.system.surface.grid.wrap ∷ (os ++ (rs ++ (ss ++ cs)))) old a new p
+    (then_lines (wrap_text m.system.surface.grid.wrap ∷ []) (os ++ (rs ++ (ss ++ cs))) a b new q
+    (then_lines os (rs ++ (ss ++ cs)) b c new r
+    (then_lines rs (ss ++ cs) c d new s (then_lines ss cs d e new t u))))
+
+pub copied_is : {X : Type 0} (r : Option (Bor X)) (o : Option X) → MatchOption r (o ≡ None) (λ x. o ≡ Some x.now) → option_copied r ≡ o
+copied_is None o h = sym h
+copied_is (Some x) o h = sym h

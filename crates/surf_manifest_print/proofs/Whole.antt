@@ -1,5 +1,5 @@
 -- The grammar reads what is printed.
-use Rattle.std.proofs.Common.{ℕ, zero, suc, ◌≡◌, ◌+◌, ◌*◌, ◌≤◌, List, [], ◌∷◌, ◌++◌, length, map, take, drop, codes, refl, sym, ◌∙◌, ap, arith, Bool, true, false, ◌&&◌, ◌||◌, nat_lt, Option, Some, None, Result, Ok, Err, subst}
+use Rattle.std.proofs.Common.{ℕ, zero, suc, ◌≡◌, ◌+◌, ◌*◌, ◌≤◌, List, [], ◌∷◌, ◌++◌, length, map, take, drop, codes, refl, sym, append_assoc, ◌∙◌, ap, arith, Bool, true, false, ◌&&◌, ◌||◌, nat_lt, Option, Some, None, Result, Ok, Err, subst}
 use Rattle.std.specs.List.{list_all}
 use Rattle.std.proofs.lemmas.Bool.{le-ltb, ne_eqb}
 use Rattle.surf_lattice.specs.declared.site.GridKind.{GridKind}
@@ -15,7 +15,7 @@ use Rattle.surf_manifest.specs.Steps.{nothing}
 use Rattle.surf_manifest.specs.Bytes.{rows_of}
 use Rattle.surf_manifest.specs.WellFormed.{are_colours, IsWellFormed}
 use Rattle.surf_manifest_print.specs.Legends.{LegendText, IsLegend}
-use Rattle.surf_manifest_print.specs.Prints.{option_text, rule_text, geometry_text, wrap_text, colour_lines, state_lines, rule_lines, print_lines, print_of, ReadsPrint, formatted, formatted_manifest, KeepsFormat}
+use Rattle.surf_manifest_print.specs.Prints.{option_text, rule_text, geometry_text, wrap_text, colour_lines, block_lines, rule_block, state_block, legend_lines, print_lines, print_of, ReadsPrint, formatted, formatted_manifest, KeepsFormat}
 use Rattle.surf_manifest_print.proofs.Segments.{run_texts, at, past, up, up_is, split, step_line, step_item, row_step, run_legend, legend_end, run_options, run_rules, run_colours, run_rows}
 use Rattle.surf_manifest.proofs.StepLemmas.{steps_read}
 use Rattle.surf_manifest.proofs.Good.{gives_well_formed}
@@ -110,6 +110,15 @@ wrap_step false k n rest = step_item (record nothing { number = n; parts = said 
 fits : (m : ManifestText) → IsWellFormed m → FitsLimits (said m.system.surface.grid.kind m.system.surface.grid.wrap m.options m.system.surface.rules m.system.surface.grid.width m.system.surface.grid.height m.system.start)
 fits m w = record { height = w.height; rules = w.few_rules; sites = w.few_sites; joined = w.joined }
 
+abbrev state_lines : ManifestText → List (List ℕ)
+state_lines m =
+    codes "!START_INIT_STATE" ∷ (map spaced (rows_of m.system.surface.grid.width m.system.surface.grid.height m.system.start)
+    ++ (codes "!END_INIT_STATE" ∷ colour_lines m.colormap))
+
+abbrev rule_lines : ManifestText → List (List ℕ)
+rule_lines m =
+    codes "!START_TRANSITION_RULES" ∷ (map rule_text m.system.surface.rules ++ (codes "!END_TRANSITION_RULES" ∷ state_lines m))
+
 run_state : (m : ManifestText) → IsWellFormed m → (n o : ℕ)
     → run_texts (record { number = n; block = None; opened = o; has_rules = true; has_state = false; has_colours = false; parts = said m.system.surface.grid.kind m.system.surface.grid.wrap m.options m.system.surface.rules 0 0 [] }) (state_lines m) ≡ Ok m
 run_state m w n o =
@@ -137,16 +146,24 @@ run_rule_lines m w n o =
     ∙ (step_line c2 (codes "!END_TRANSITION_RULES") (state_lines m) (Closes Rules) refl refl refl
     ∙ run_state m w (past (n + 1) rules + 1) n))
 
+lines_are : (m : ManifestText) → block_lines m ≡ rule_lines m
+lines_are m =
+    let rows = map spaced (rows_of m.system.surface.grid.width m.system.surface.grid.height m.system.start) in
+    let rules = map rule_text m.system.surface.rules in
+    ap (λ v. codes "!START_TRANSITION_RULES" ∷ v) (append_assoc rules (codes "!END_TRANSITION_RULES" ∷ []) (state_block m ++ colour_lines m.colormap))
+    ∙ ap (λ v. codes "!START_TRANSITION_RULES" ∷ (rules ++ (codes "!END_TRANSITION_RULES" ∷ (codes "!START_INIT_STATE" ∷ v)))) (append_assoc rows (codes "!END_INIT_STATE" ∷ []) (colour_lines m.colormap))
+
 run_print : (m : ManifestText) (l : Option LegendText) → IsWellFormed m → IsLegend l → run_texts nothing (print_lines m l) ≡ Ok m
 run_print m l w h =
     let g = m.system.surface.grid in
     let n = legend_end l 1 in
     let after_wrap = map option_text m.options ++ rule_lines m in
-    run_legend l nothing (geometry_text g.kind ∷ wrap_text g.wrap ∷ after_wrap) h
+    ap (λ v. run_texts nothing (legend_lines l ++ (geometry_text g.kind ∷ wrap_text g.wrap ∷ (map option_text m.options ++ v)))) (lines_are m)
+    ∙ (run_legend l nothing (geometry_text g.kind ∷ wrap_text g.wrap ∷ after_wrap) h
     ∙ (geometry_step g.kind n (wrap_text g.wrap ∷ after_wrap)
     ∙ (wrap_step g.wrap g.kind (n + 1) after_wrap
     ∙ (run_options m.options (record nothing { number = n + 1 + 1; parts = said g.kind g.wrap [] [] 0 0 [] }) (rule_lines m) w.options refl
-    ∙ run_rule_lines m w (past (n + 1 + 1) m.options) 0)))
+    ∙ run_rule_lines m w (past (n + 1 + 1) m.options) 0))))
 
 pub reads_print : ReadsPrint
 reads_print m l w h = sym (steps_read (print_of m l)) ∙ run_print m l w h

@@ -65,18 +65,19 @@ abbrev pub colour_lines : Option (List (List ℕ)) → List (List ℕ)
 colour_lines None = []
 colour_lines (Some texts) = codes "!START_COLORMAP" ∷ (texts ++ (codes "!END_COLORMAP" ∷ []))
 
-abbrev pub state_lines : ManifestText → List (List ℕ)
-state_lines m =
-    codes "!START_INIT_STATE" ∷ (map spaced (rows_of m.system.surface.grid.width m.system.surface.grid.height m.system.start)
-    ++ (codes "!END_INIT_STATE" ∷ colour_lines m.colormap))
+abbrev pub state_block : ManifestText → List (List ℕ)
+state_block m =
+    codes "!START_INIT_STATE" ∷ (map spaced (rows_of m.system.surface.grid.width m.system.surface.grid.height m.system.start) ++ (codes "!END_INIT_STATE" ∷ []))
 
-abbrev pub rule_lines : ManifestText → List (List ℕ)
-rule_lines m =
-    codes "!START_TRANSITION_RULES" ∷ (map rule_text m.system.surface.rules ++ (codes "!END_TRANSITION_RULES" ∷ state_lines m))
+abbrev pub rule_block : ManifestText → List (List ℕ)
+rule_block m = codes "!START_TRANSITION_RULES" ∷ (map rule_text m.system.surface.rules ++ (codes "!END_TRANSITION_RULES" ∷ []))
+
+abbrev pub block_lines : ManifestText → List (List ℕ)
+block_lines m = rule_block m ++ (state_block m ++ colour_lines m.colormap)
 
 abbrev pub print_lines : ManifestText → Option LegendText → List (List ℕ)
 print_lines m l =
-    legend_lines l ++ (geometry_text m.system.surface.grid.kind ∷ wrap_text m.system.surface.grid.wrap ∷ (map option_text m.options ++ rule_lines m))
+    legend_lines l ++ (geometry_text m.system.surface.grid.kind ∷ wrap_text m.system.surface.grid.wrap ∷ (map option_text m.options ++ block_lines m))
 
 -- the canonical text, with the legend's lines where one is given
 abbrev pub print_of : ManifestText → Option LegendText → List ℕ

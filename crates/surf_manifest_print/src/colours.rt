@@ -20,7 +20,7 @@ impl Printer {
 
     /// Appends the block of the colormap, where there is one.
     pub fn put_colormap(&mut self, colormap: Option<&[Text]>) -> Result<(), NoMemory>
-        ensures { OnOk result (self.new ≡ self.old ++ ended (colour_lines (option_copied colormap))) }
+        ensures { OnOk result (self.new ≡ self.old ++ ended (colour_lines (option_copied colormap.entry))) }
     {
         if let Some(lines) = colormap {
             self.put_line(b"!START_COLORMAP")?;

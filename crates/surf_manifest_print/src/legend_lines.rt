@@ -1,6 +1,6 @@
 // The lines of a legend.
 ghost use Rattle.std.specs.Option.{option_copied};
-ghost use Rattle.std.specs.Prelude.{◌++◌, ◌∷◌, ◌≡◌, OnOk, [], map};
+ghost use Rattle.std.specs.Prelude.{◌++◌, ◌∷◌, ◌≡◌, OnOk, Some, [], map};
 ghost use Rattle.surf_manifest.specs.Bytes.{ended};
 ghost use Rattle.surf_manifest_print.specs.Prints.{events_text, legend_lines, place_text, site_text};
 
@@ -46,21 +46,28 @@ impl Printer {
     fn put_events(&mut self, events: u64) -> Result<(), NoMemory>
         ensures { OnOk result (self.new ≡ self.old ++ (events_text events ++ 10 ∷ [])) }
     {
-        self.put(b"# surf ")?;
-        self.put(b"events ")?;
+        self.put(b"# surf events ")?;
         self.put_number(events)?;
         self.put(b"\n")
     }
 
+    // Appends the lines of a legend.
+    fn put_whole_legend(&mut self, legend: &Legend) -> Result<(), NoMemory>
+        ensures { OnOk result (self.new ≡ self.old ++ ended (legend_lines (Some legend.now))) }
+    {
+        self.put_places(b"input", &legend.inputs)?;
+        self.put_places(b"output", &legend.outputs)?;
+        self.put_events(legend.events)?;
+        Ok(())
+    }
+
     /// Appends the lines of a legend, where there is one.
     pub fn put_legend(&mut self, legend: Option<&Legend>) -> Result<(), NoMemory>
-        ensures { OnOk result (self.new ≡ self.old ++ ended (legend_lines (option_copied legend))) }
+        ensures { OnOk result (self.new ≡ self.old ++ ended (legend_lines (option_copied legend.entry))) }
     {
-        if let Some(legend) = legend {
-            self.put_places(b"input", &legend.inputs)?;
-            self.put_places(b"output", &legend.outputs)?;
-            self.put_events(legend.events)?;
+        match legend {
+            Some(legend) => self.put_whole_legend(legend),
+            None => Ok(()),
         }
-        Ok(())
     }
 }

@@ -9,10 +9,15 @@ mod colours;
 mod laws;
 mod legend;
 mod legend_lines;
+mod print;
 mod printer;
+mod room;
 mod rows;
 mod rules;
 mod settings;
+#[cfg(test)]
+mod tests;
 
 pub use laws::{print_is_kept, print_is_read};
 pub use legend::{Legend, Place};
+pub use print::print_manifest;

@@ -30,15 +30,27 @@ impl Printer {
         Ok(())
     }
 
+    // Appends names with one blank between them.
+    fn put_names(&mut self, names: &Names, row: &[u32]) -> Result<(), NoMemory>
+        requires { NamesBelow (length names.now) row.now }
+        ensures { OnOk result (self.new ≡ self.old ++ spaced (map (text_of names.now) row.now)) }
+    {
+        match row.split_first() {
+            Some((first, others)) => {
+                self.put_name(names, *first)?;
+                self.put_others(names, others)?;
+                Ok(())
+            }
+            None => Ok(()),
+        }
+    }
+
     // Appends the line of a row.
     fn put_row(&mut self, names: &Names, row: &[u32]) -> Result<(), NoMemory>
         requires { NamesBelow (length names.now) row.now }
         ensures { OnOk result (self.new ≡ self.old ++ (spaced (map (text_of names.now) row.now) ++ 10 ∷ [])) }
     {
-        if let Some((first, others)) = row.split_first() {
-            self.put_name(names, *first)?;
-            self.put_others(names, others)?;
-        }
+        self.put_names(names, row)?;
         self.put(b"\n")
     }
 
@@ -49,7 +61,7 @@ impl Printer {
         ensures { OnOk result (self.new ≡ self.old ++ ended (map spaced (rows_of width height (map (text_of names.now) start.now)))) }
     {
         let mut rest = start;
-        for _row in 0..height {
+        for _y in 0..height {
             let (row, after) = rest.split_at(width as usize);
             self.put_row(names, row)?;
             rest = after;
