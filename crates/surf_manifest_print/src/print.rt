@@ -26,7 +26,12 @@ impl Printer {
         ensures { OnOk result (self.new ≡ self.old ++ ended (state_block manifest.now.text)) }
     {
         let grid = manifest.grid();
-        self.put_state_block(manifest.names(), manifest.start(), grid.width(), grid.height())
+        self.put_state_block(
+            manifest.names(),
+            manifest.start(),
+            grid.width(),
+            grid.height(),
+        )
     }
 
     // Appends all lines of a manifest but those of a legend.
@@ -47,7 +52,11 @@ impl Printer {
 ///
 /// The names of a legend are tokens of bytes 33 to 126. The text is written once, into a buffer that
 /// has room for it from the start.
-pub fn print_manifest(alloc: Global, manifest: &Manifest, legend: Option<&Legend>) -> Result<Vec<u8>, NoMemory>
+pub fn print_manifest(
+    alloc: Global,
+    manifest: &Manifest,
+    legend: Option<&Legend>,
+) -> Result<Vec<u8>, NoMemory>
     requires { IfSome legend (λ l. HasWords l.now) }
     ensures { IfOk result (λ v. v.items ≡ print_of manifest.now.text (option_copied legend.entry)) }
 {

@@ -9,14 +9,20 @@ use surf_base::Text;
 use surf_manifest::{Manifest, OptionLine};
 use surf_rules::{Names, Rule};
 
-// The geometry, the line about joined sides, and the starts and ends of three blocks.
-const MARKS: usize = 141;
+// The lines that every manifest has, and those of a colormap.
+const MARKS: usize = "geometry = square\nwrap = false\n".len()
+    + "!START_TRANSITION_RULES\n!END_TRANSITION_RULES\n".len()
+    + "!START_INIT_STATE\n!END_INIT_STATE\n".len()
+    + "!START_COLORMAP\n!END_COLORMAP\n".len();
 // A rate is at most seven digits, or six, a point and six.
-const RULE: usize = "() -> \n".len() + 13;
+const RULE: usize = "()  -> \n".len() + 13;
+
 const PLUS: usize = " + ".len();
+
 const OPTION: usize = " = \n".len();
 // A word of six bytes and coordinates of ten digits.
 const PLACE: usize = "# surf output   \n".len() + 20;
+
 const EVENTS: usize = "# surf events \n".len() + 20;
 
 fn side_room(names: &Names, first: u32, second: Option<u32>) -> usize
@@ -25,7 +31,9 @@ fn side_room(names: &Names, first: u32, second: Option<u32>) -> usize
 {
     let room = names.text(first).len();
     match second {
-        Some(second) => room.saturating_add(PLUS).saturating_add(names.text(second).len()),
+        Some(second) => room
+            .saturating_add(PLUS)
+            .saturating_add(names.text(second).len()),
         None => room,
     }
 }
@@ -48,7 +56,9 @@ fn start_room(names: &Names, start: &[u32]) -> usize
 {
     let mut room = 0usize;
     for name in start {
-        room = room.saturating_add(1).saturating_add(names.text(*name).len());
+        room = room
+            .saturating_add(1)
+            .saturating_add(names.text(*name).len());
     }
     room
 }
@@ -75,7 +85,9 @@ fn colours_room(lines: &[Text]) -> usize {
 fn places_room(places: &[Place]) -> usize {
     let mut room = 0usize;
     for place in places {
-        room = room.saturating_add(PLACE).saturating_add(place.name.bytes().len());
+        room = room
+            .saturating_add(PLACE)
+            .saturating_add(place.name.bytes().len());
     }
     room
 }

@@ -55,7 +55,13 @@ impl Printer {
     }
 
     // Appends the lines of the rows.
-    fn put_rows(&mut self, names: &Names, start: &[u32], width: u32, height: u32) -> Result<(), NoMemory>
+    fn put_rows(
+        &mut self,
+        names: &Names,
+        start: &[u32],
+        width: u32,
+        height: u32,
+    ) -> Result<(), NoMemory>
         requires names { NamesBelow (length names.now) start.now }
         requires sites { length start.now ≡ width * height }
         ensures { OnOk result (self.new ≡ self.old ++ ended (map spaced (rows_of width height (map (text_of names.now) start.now)))) }
@@ -70,7 +76,13 @@ impl Printer {
     }
 
     /// Appends the block of the initial state.
-    pub fn put_state_block(&mut self, names: &Names, start: &[u32], width: u32, height: u32) -> Result<(), NoMemory>
+    pub fn put_state_block(
+        &mut self,
+        names: &Names,
+        start: &[u32],
+        width: u32,
+        height: u32,
+    ) -> Result<(), NoMemory>
         requires names { NamesBelow (length names.now) start.now }
         requires sites { length start.now ≡ width * height }
         ensures { OnOk result (self.new ≡ self.old ++ ended (codes "!START_INIT_STATE" ∷ (map spaced (rows_of width height (map (text_of names.now) start.now)) ++ (codes "!END_INIT_STATE" ∷ [])))) }

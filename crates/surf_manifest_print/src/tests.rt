@@ -1,3 +1,8 @@
+ghost use Rattle.std.specs.Prelude.{◌≡◌, IfOk, true};
+ghost use Rattle.surf_manifest.specs.Bytes.{is_word};
+ghost use Rattle.surf_manifest_print.specs.Legends.{has_word};
+
+use crate::room::manifest_room;
 use crate::{Legend, Place, print_manifest};
 use std::alloc::Global;
 use std::test::Fail;
@@ -53,7 +58,10 @@ const LEGEND: &[u8] = b"# surf input a 1 0
 # surf events 21
 ";
 
-fn place(alloc: Global, name: &[u8], x: u32, y: u32) -> Result<Place, NoMemory> {
+fn place(alloc: Global, name: &[u8], x: u32, y: u32) -> Result<Place, NoMemory>
+    requires { is_word name.now ≡ true }
+    ensures { IfOk result (λ p. has_word p ≡ true) }
+{
     let name = name.to_vec(alloc).map_err(|_| NoMemory)?;
     Ok(Place {
         name: Text::new(name),
@@ -66,6 +74,7 @@ fn prints(rt: HostRuntime) -> Result<(), Fail> {
     let manifest = read_manifest(rt.alloc(), WRITTEN)?;
     let text = print_manifest(rt.alloc(), &manifest, None)?;
     assert_eq!(rt; text.as_slice(), PRINTED);
+    assert!(rt; text.len() <= manifest_room(&manifest));
     Ok(())
 }
 
@@ -78,7 +87,8 @@ fn prints_a_legend(rt: HostRuntime) -> Result<(), Fail> {
         events: 21,
     };
     let text = print_manifest(rt.alloc(), &manifest, Some(&legend))?;
-    assert_eq!(rt; &text[..LEGEND.len()], LEGEND);
-    assert_eq!(rt; &text[LEGEND.len()..], PRINTED);
+    assert_eq!(rt; text.len(), LEGEND.len() + PRINTED.len());
+    assert!(rt; text.starts_with(LEGEND));
+    assert!(rt; text.ends_with(PRINTED));
     Ok(())
 }
