@@ -1,5 +1,5 @@
 -- The counts of a reading are at most the bytes that were read.
-use Rattle.std.proofs.Common.{ℕ, zero, suc, ◌≡◌, ◌+◌, ◌^◌, ◌<◌, ◌≤◌, List, [], ◌∷◌, length, map, filter, codes, refl, sym, ◌∙◌, ap, subst, arith, Bool, true, false, ◌==◌, Option, Some, None, Result, Ok, Err, if◌then◌else◌, ⊎_elim}
+use Rattle.std.proofs.Common.{ℕ, suc, ◌≡◌, ◌+◌, ◌≤◌, List, [], ◌∷◌, length, map, filter, codes, subst, arith, Bool, true, false, ◌==◌, Option, Some, None, Result, Ok, Err, if◌then◌else◌, ⊎_elim}
 use Rattle.std.specs.Char.{to_ascii_lowercase}
 use Rattle.std.specs.List.{list_all, slice_split, onto_first}
 use Rattle.std.specs.Str.{bytes_eq}
@@ -7,14 +7,14 @@ use Rattle.std.proofs.lemmas.Bool.{cases_Bool}
 use Rattle.surf_world.specs.Systems as systems
 use Rattle.surf_lattice.specs.declared.site.GridKind.TheVariants.{Square, Hex}
 use Rattle.surf_manifest.specs.declared.error.ManifestError.{ManifestError}
-use Rattle.surf_manifest.specs.declared.error.ManifestError.TheVariants.{BadLine, BadOption, BadRate, BadRule}
+use Rattle.surf_manifest.specs.declared.error.ManifestError.TheVariants.{BadLine, BadOption}
 use Rattle.surf_manifest.specs.declared.line.BlockKind.{BlockKind}
 use Rattle.surf_manifest.specs.declared.line.BlockKind.TheVariants.{Rules, State, Colormap}
 use Rattle.surf_manifest.specs.Bytes.{is_blank, is_filled, is_word, tokens_of, trimmed, before, after}
 use Rattle.surf_manifest.specs.Drafts.{HasRoom}
 use Rattle.surf_manifest.specs.Grammar.{line_fault, unless_fault}
-use Rattle.surf_manifest.specs.Item.{Item, Geometry, Wrap, Kept, Rule, Row, Colour, is_name, item_of, option_from, option_of, setting_of, geometry_of, wrap_of, bracketed_rule, rated_rule, rule_found, rule_from, rule_of_tokens, rate_of, rule_line_of, row_of}
-use Rattle.surf_manifest.specs.Limits.{Held, Reached, with_names, with_row, holding, holding_result, known_by, after_line, line_step}
+use Rattle.surf_manifest.specs.Item.{Item, Geometry, Wrap, Kept, Rule, Row, Colour, is_name, item_of, option_from, setting_of, geometry_of, wrap_of, bracketed_rule, rated_rule, rule_found, rule_from, rule_of_tokens, rate_of, rule_line_of}
+use Rattle.surf_manifest.specs.Limits.{Held, Reached, holding_result, known_by, after_line, line_step}
 use Rattle.surf_manifest.specs.Line.{Line, Skipped, Opens, Closes, Includes, Unknown, Content, is_comment_sign, is_include, mark_of, line_of_text, line_of}
 use Rattle.surf_manifest.specs.Readings.{IsHeldWithin, IsCounted}
 use Rattle.surf_manifest.proofs.ReadingLemmas.{trim_shorter}

@@ -1,3 +1,4 @@
+mod Worked
 pub mod StepLemmas
 pub mod WellFormed
 pub mod Good

@@ -1,5 +1,5 @@
 -- A reader that keeps rules and sites within the limits reads the grammar.
-use Rattle.std.proofs.Common.{ℕ, zero, suc, ◌≡◌, ◌+◌, ◌≤◌, List, [], ◌∷◌, ◌++◌, length, take, map, refl, sym, ◌∙◌, ap, arith, Bool, true, false, not, ◌&&◌, ◌||◌, ◌==◌, nat_lt, is_some, Option, Some, None, Result, Ok, Err, if◌then◌else◌, length-append, append_assoc}
+use Rattle.std.proofs.Common.{ℕ, zero, suc, ◌≡◌, ◌+◌, List, [], ◌∷◌, ◌++◌, length, take, map, refl, ◌∙◌, ap, arith, not, ◌==◌, nat_lt, is_some, Option, Some, None, Result, Ok, Err, length-append, append_assoc}
 use Rattle.std.proofs.lemmas.List.{take_all}
 use Rattle.std.proofs.lemmas.Bool.{ltb-false}
 use Rattle.surf_manifest.specs.declared.error.ManifestError.{ManifestError}
@@ -10,9 +10,9 @@ use Rattle.surf_manifest.specs.declared.line.BlockKind.TheVariants.{Rules, State
 use Rattle.surf_manifest.specs.Bytes.{lines_of}
 use Rattle.surf_manifest.specs.Line.{Line, Skipped, Opens, Closes, Includes, Unknown, Content, line_of}
 use Rattle.surf_manifest.specs.Item.{Item, Geometry, Wrap, Kept, Rule, Row, Colour, item_of}
-use Rattle.surf_manifest.specs.Grammar.{ManifestText, Parts, Known, open_fault, close_fault, item_fault, line_fault, text_fault, unless_fault, manifest_from, finish, manifest_of}
+use Rattle.surf_manifest.specs.Grammar.{ManifestText, Parts, Known, open_fault, item_fault, line_fault, text_fault, unless_fault, manifest_from, finish, manifest_of}
 use Rattle.surf_manifest.specs.Steps.{with_part, with_result, next, nothing, run_from}
-use Rattle.surf_manifest.specs.Limits.{Held, held_of, with_names, holding, holding_result, Reached, reached, parts_held, known_by, after_line, end_fault, finished, read_on, at_start}
+use Rattle.surf_manifest.specs.Limits.{Held, held_of, with_names, holding, holding_result, reached, parts_held, known_by, after_line, finished, read_on, at_start}
 use Rattle.surf_manifest.proofs.StepLemmas.{steps_read}
 use Rattle.surf_manifest.proofs.Good.{none_if}
 

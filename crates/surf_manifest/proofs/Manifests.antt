@@ -1,17 +1,15 @@
 -- The fields of a manifest: names, rates and changes.
-use Rattle.std.proofs.Common.{ℕ, zero, suc, ◌≡◌, ◌+◌, ◌*◌, ◌<◌, ◌≤◌, List, [], ◌∷◌, ◌++◌, length, map, refl, sym, subst, ◌∙◌, ap, arith, Bool, true, false, ◌&&◌, nat_le, Option, Some, None, Result, Ok, Err, is_some, OnOk, OnErr, slice_get, unwrap_or, All, IfSome, get_or, set}
+use Rattle.std.proofs.Common.{ℕ, zero, suc, ◌≡◌, ◌<◌, ◌≤◌, List, [], ◌∷◌, length, map, refl, sym, subst, ◌∙◌, ap, arith, true, ◌&&◌, nat_le, Option, Some, None, Result, Ok, Err, is_some, OnOk, OnErr, All, IfSome, get_or}
 use Rattle.std.specs.List.{list_all}
 use Rattle.std.specs.Option.{option_map}
 use Rattle.std.proofs.lemmas.Bool.{and_parts, le-leb, leb-true}
-use Rattle.std.proofs.lemmas.List.{length-map, map-set}
 use Rattle.std.proofs.lemmas.List.Elements.{All-map}
 use Rattle.surf_base.specs.declared.outside.NoMemory.{NoMemory}
 use Rattle.surf_lattice.specs.Grids.{Grid}
 use Rattle.surf_rules.specs.Names.{text_of, with_text, AreDistinct}
 use Rattle.surf_rules.specs.declared.rule.Rule.{Rule}
-use Rattle.surf_world.specs.Systems as systems
 use Rattle.surf_world.specs.Renamings.{RuleBelow, renamed_rule}
-use Rattle.surf_world.specs.Worlds.{Placed, rule_of}
+use Rattle.surf_world.specs.Worlds.{rule_of}
 use Rattle.surf_manifest.specs.Drafts.{IsGrown, named_rule, RulesBelow, NamesBelow}
 use Rattle.surf_manifest.specs.Item.{is_name}
 use Rattle.surf_manifest.specs.declared.manifest.Manifest.TheInside.{Inside}

@@ -1,5 +1,5 @@
 -- One line of the reader, and the bounds of its counts.
-use Rattle.std.proofs.Common.{ℕ, zero, suc, ◌≡◌, ◌+◌, ◌^◌, ◌<◌, ◌≤◌, List, [], ◌∷◌, length, map, codes, refl, sym, ◌∙◌, ap, arith, Bool, true, false, ◌||◌, ◌==◌, Option, Some, None, Result, Ok, Err, MatchResult, if◌then◌else◌, ⊎_elim}
+use Rattle.std.proofs.Common.{ℕ, ◌≡◌, ◌+◌, ◌≤◌, List, [], ◌∷◌, length, codes, refl, ◌∙◌, ap, arith, Bool, true, false, ◌==◌, Option, Some, None, Result, Ok, Err, MatchResult, if◌then◌else◌, ⊎_elim}
 use Rattle.std.specs.Str.{bytes_eq}
 use Rattle.std.proofs.lemmas.Bool.{cases_Bool}
 use Rattle.std.proofs.lemmas.Result.{MatchResult-weaker}
@@ -9,7 +9,7 @@ use Rattle.surf_manifest.specs.Answers.{Refuses}
 use Rattle.surf_manifest.specs.Bytes.{is_blank, tokens_of, trimmed, without_front, without_end, unless_last}
 use Rattle.surf_manifest.specs.Drafts.{HasRoom, HasRoomFor}
 use Rattle.surf_manifest.specs.Grammar.{item_fault, line_fault, unless_fault}
-use Rattle.surf_manifest.specs.Item.{Item, item_of}
+use Rattle.surf_manifest.specs.Item.{item_of}
 use Rattle.surf_manifest.specs.Limits.{Held, Reached, parts_held, known_by, holding_result, item_step, counted, after_line, line_step}
 use Rattle.surf_manifest.specs.Line.{Line, Skipped, Opens, Closes, Includes, Unknown, Content, is_comment_sign, is_include, mark_of, line_of_text, line_of}
 use Rattle.surf_manifest.proofs.RowLemmas.{refuses_by}

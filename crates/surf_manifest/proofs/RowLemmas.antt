@@ -1,17 +1,16 @@
 -- Rows of names, token by token.
-use Rattle.std.proofs.Common.{ℕ, ◌≡◌, ◌+◌, ◌≤◌, List, [], ◌∷◌, ◌++◌, length, take, map, refl, sym, ◌∙◌, ap, arith, Bool, true, false, ◌&&◌, ◌||◌, ◌==◌, Option, Some, None, Result, Ok, Err, if◌then◌else◌, append-nil}
+use Rattle.std.proofs.Common.{ℕ, ◌≡◌, ◌+◌, ◌≤◌, List, [], ◌∷◌, length, map, refl, sym, ◌∙◌, arith, true, false, ◌&&◌, Some, None, Result, Ok, Err, append-nil}
 use Rattle.std.specs.List.{list_all}
 use Rattle.std.proofs.lemmas.List.{length-map, take_all}
-use Rattle.std.proofs.lemmas.Bool.{eq-eqb, ne_eqb}
 use Rattle.surf_rules.specs.Names.{text_of}
 use Rattle.surf_manifest.specs.declared.draft.Draft.{Draft}
 use Rattle.surf_manifest.specs.declared.error.ManifestError.{ManifestError}
 use Rattle.surf_manifest.specs.declared.error.ManifestError.TheVariants.{BadLine, BadRule, BadRate, Ragged, Include, BlockTwice, BadOption, Unclosed, MissingBlock, NoSites, TooManyRules, TooManySites, WrapSize, NoMemory}
 use Rattle.surf_manifest.specs.Answers.{Refuses}
 use Rattle.surf_manifest.specs.Drafts.{held_by, IsDraft}
-use Rattle.surf_manifest.specs.Grammar.{item_fault, row_fault}
+use Rattle.surf_manifest.specs.Grammar.{row_fault}
 use Rattle.surf_manifest.specs.Item.{Item, is_name, row_of}
-use Rattle.surf_manifest.specs.Limits.{Held, with_names, with_row, parts_held, holding_result, item_step}
+use Rattle.surf_manifest.specs.Limits.{Held, with_names, with_row, parts_held, item_step}
 
 -- a refusal that goes on
 pub refuses_by : {M N : Type 0} (r : Result M ManifestError) (q : Result N ManifestError) (f : ManifestError)

@@ -1,5 +1,5 @@
 -- What a refusal says. Want of memory says nothing.
-use Rattle.std.specs.Prelude.{ℕ, ◌≡◌, Result, Err}
+use Rattle.std.specs.Prelude.{◌≡◌, Result, Err}
 use Rattle.surf_manifest.specs.declared.error.ManifestError.{ManifestError}
 use Rattle.surf_manifest.specs.declared.error.ManifestError.TheVariants.{BadLine, BadRule, BadRate, Ragged, Include, BlockTwice, BadOption, Unclosed, MissingBlock, NoSites, TooManyRules, TooManySites, WrapSize, NoMemory}
 

@@ -1,5 +1,5 @@
 -- What a reader keeps of the lines so far: rules and sites within the limits, and the numbers of all of them.
-use Rattle.std.specs.Prelude.{ℕ, ◌+◌, ◌≡◌, Bool, false, not, ◌&&◌, ◌||◌, ◌==◌, nat_lt, List, [], ◌∷◌, ◌++◌, length, take, Option, Some, None, is_some, Result, Ok, Err, if◌then◌else◌}
+use Rattle.std.specs.Prelude.{ℕ, ◌+◌, Bool, false, not, ◌&&◌, ◌||◌, ◌==◌, nat_lt, List, [], ◌∷◌, ◌++◌, length, take, Option, Some, None, is_some, Result, Ok, Err, if◌then◌else◌}
 use Rattle.surf_lattice.specs.declared.site.GridKind.{GridKind}
 use Rattle.surf_lattice.specs.declared.site.GridKind.TheVariants.{Square}
 use Rattle.surf_world.specs.Systems as systems

@@ -17,7 +17,11 @@ use surf_rules::{Names, Rule};
 fn kind(grid: &Grid) -> GridKind
     ensures { result ≡ (grid_of grid.now).kind }
 {
-    if grid.degree() == 4 { GridKind::Square } else { GridKind::Hex }
+    if grid.degree() == 4 {
+        GridKind::Square
+    } else {
+        GridKind::Hex
+    }
 }
 
 // The sides are joined exactly where the first site has a neighbour to the west.
@@ -30,7 +34,13 @@ fn is_joined(grid: &Grid) -> bool
 
 impl Manifest {
     /// The manifest of these parts, with no options and no colormap. Takes no memory.
-    pub fn assemble(alloc: Global, grid: Grid, names: Names, rules: Vec<Rule>, start: Vec<u32>) -> Manifest
+    pub fn assemble(
+        alloc: Global,
+        grid: Grid,
+        names: Names,
+        rules: Vec<Rule>,
+        start: Vec<u32>,
+    ) -> Manifest
         requires names { list_all is_name names ≡ true }
         requires rules { RulesBelow (length names) rules.items }
         requires rates { All (λ r. r.rate ≤ 1000000000000) rules.items }
@@ -38,19 +48,17 @@ impl Manifest {
         requires start { NamesBelow (length names) start.items }
         requires sites { length start.items ≡ (grid_of grid).width * (grid_of grid).height }
         requires few_sites { length start.items ≤ 33554432 }
-        ensures {
-            result ≡ record {
-                text = record {
-                    system = record {
-                        surface = record { grid = grid_of grid; rules = map (named_rule names) rules.items };
-                        start = map (text_of names) start.items
-                    };
-                    options = [];
-                    colormap = None
-                };
-                names = names
-            }
-        }
+        ensures { result ≡ record {
+          text = record {
+            system = record {
+              surface = record { grid = grid_of grid; rules = map (named_rule names) rules.items };
+              start = map (text_of names) start.items;
+            };
+            options = [];
+            colormap = None;
+          };
+          names = names;
+        } }
     {
         Manifest {
             kind: kind(&grid),

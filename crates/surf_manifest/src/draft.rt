@@ -35,7 +35,11 @@ pub struct Draft {
     pub colours: Vec<Text>,
 }
 
-const RULE_LIMIT: usize = 1_048_576;
+/// The most rules that a manifest has.
+pub const RULE_LIMIT: usize = 1_048_576;
+
+/// The most sites that a manifest has.
+pub const SITE_LIMIT: usize = 33_554_432;
 
 // A copy of some bytes as a text.
 fn text(alloc: Global, bytes: &[u8]) -> Result<Text, NoMemory>
@@ -117,7 +121,9 @@ impl Draft {
             Ok(Setting::Geometry(kind)) => self.kind = kind,
             Ok(Setting::Wrap(wrap)) => self.wrap = wrap,
             Ok(Setting::Kept(key, value)) => {
-                return self.keep(alloc, key, value).map_err(|_| ManifestError::NoMemory);
+                return self
+                    .keep(alloc, key, value)
+                    .map_err(|_| ManifestError::NoMemory);
             }
             Err(fault) => return Err(fault),
         }
@@ -138,7 +144,13 @@ impl Draft {
     }
 
     /// Adds what the content line `number` says in its block. After a refusal the draft is of no use.
-    pub fn add_line(&mut self, alloc: Global, number: u64, block: Option<BlockKind>, line: &[u8]) -> Result<(), ManifestError>
+    pub fn add_line(
+        &mut self,
+        alloc: Global,
+        number: u64,
+        block: Option<BlockKind>,
+        line: &[u8],
+    ) -> Result<(), ManifestError>
         requires draft { IsDraft self.old }
         requires counted { HasRoom (held_by self.old) (length line.now) }
         ensures draft { IfOk result (λ _. IsDraft self.new) }
@@ -148,7 +160,9 @@ impl Draft {
             None => self.add_option(alloc, number, line),
             Some(BlockKind::Rules) => self.add_rule_line(number, line),
             Some(BlockKind::State) => self.add_row(number, line),
-            Some(BlockKind::Colormap) => self.add_colour(alloc, line).map_err(|_| ManifestError::NoMemory),
+            Some(BlockKind::Colormap) => self
+                .add_colour(alloc, line)
+                .map_err(|_| ManifestError::NoMemory),
         }
     }
 }

@@ -1,4 +1,9 @@
-//! The grammar of manifests: what a text means, or its first fault.
+//! Manifests: the grammar of their texts, the reader, and worlds over numbered names.
+//!
+//! `manifest_of` in specs/Grammar.antt says what a text means: a manifest, or its first fault.
+//! [`read_manifest`] answers exactly that, in one pass, and want of memory alone besides. A
+//! [`Manifest`] is well formed, and [`Manifest::into_world`] gives a world over numbers whose
+//! names are those of the manifest.
 #![tactic(auto)]
 
 mod assembly;
@@ -7,28 +12,27 @@ mod error;
 mod laws;
 mod line;
 mod lines;
-mod options;
 mod manifest;
 mod numbering;
 mod option_lines;
+mod options;
 mod rates;
-mod rows;
 mod reader;
 mod reading;
+mod rows;
 mod rule_lines;
+#[cfg(test)]
+mod tests;
 mod texts;
 mod words;
 mod worlds;
 
-pub use draft::Draft;
 pub use error::{Block, ManifestError};
 pub use laws::{read_is_well_formed, steps_are_grammar};
-pub use line::{BlockKind, LineKind, kind_of};
-pub use manifest::Manifest;
+pub use line::BlockKind;
 pub use lines::{first_line, next_token};
+pub use manifest::Manifest;
 pub use options::OptionLine;
-pub use option_lines::{Setting, option_line};
 pub use reader::read_manifest;
-pub use rule_lines::{RuleLine, Sides, rule_line};
-pub use texts::{cut, trim};
+pub use texts::trim;
 pub use words::is_name_token;

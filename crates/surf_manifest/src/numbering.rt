@@ -39,12 +39,24 @@ pub fn numbered_rule(names: &mut Names, line: &RuleLine<'_>) -> Result<Rule, NoM
     match line.sides {
         Sides::One(a, c) => {
             let (left, left_after) = intern_two(names, a, c)?;
-            Ok(Rule { rate: line.rate, left, right: None, left_after, right_after: None })
+            Ok(Rule {
+                rate: line.rate,
+                left,
+                right: None,
+                left_after,
+                right_after: None,
+            })
         }
         Sides::Two(a, b, c, d) => {
             let (left, right) = intern_two(names, a, b)?;
             let (left_after, right_after) = intern_two(names, c, d)?;
-            Ok(Rule { rate: line.rate, left, right: Some(right), left_after, right_after: Some(right_after) })
+            Ok(Rule {
+                rate: line.rate,
+                left,
+                right: Some(right),
+                left_after,
+                right_after: Some(right_after),
+            })
         }
     }
 }

@@ -10,7 +10,7 @@ ghost use Rattle.surf_manifest.specs.Manifests.{lines_in};
 ghost use Rattle.surf_manifest.specs.Readings.{reached_by};
 ghost use Rattle.surf_manifest.specs.WellFormed.{IsWellFormed};
 
-use crate::draft::Draft;
+use crate::draft::{Draft, RULE_LIMIT, SITE_LIMIT};
 use crate::error::{Block, ManifestError};
 use crate::line::{BlockKind, LineKind, kind_of};
 use crate::manifest::Manifest;
@@ -150,10 +150,10 @@ impl Reading {
         if draft.height == 0 {
             return Some(ManifestError::NoSites);
         }
-        if draft.rule_count > 1_048_576 {
+        if draft.rule_count > RULE_LIMIT as u64 {
             return Some(ManifestError::TooManyRules(draft.rule_count));
         }
-        if draft.site_count > 33_554_432 {
+        if draft.site_count > SITE_LIMIT as u64 {
             return Some(ManifestError::TooManySites(draft.site_count));
         }
         if draft.wrap && (draft.width < 3 || draft.height < 3) {

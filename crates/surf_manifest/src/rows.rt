@@ -7,13 +7,11 @@ ghost use Rattle.surf_manifest.specs.Drafts.{IsDraft, held_by};
 ghost use Rattle.surf_manifest.specs.Item.{is_name, row_of};
 ghost use Rattle.surf_manifest.specs.Limits.{item_step, with_names, with_row};
 
-use crate::draft::Draft;
+use crate::draft::{Draft, SITE_LIMIT};
 use crate::error::ManifestError;
 use crate::lines::next_token;
 use crate::words::is_name_token;
 use surf_base::NoMemory;
-
-const SITE_LIMIT: usize = 33_554_432;
 
 impl Draft {
     // Adds a site of this name, which is kept within the limit.

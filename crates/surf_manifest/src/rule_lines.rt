@@ -53,7 +53,10 @@ fn rule_tokens(rate: u64, text: &[u8]) -> Option<RuleLine<'_>>
     let (c, rest) = next_token(rest)?;
     let Some((d, rest)) = next_token(rest) else {
         return if are_one(a, b, c) {
-            Some(RuleLine { rate, sides: Sides::One(a, c) })
+            Some(RuleLine {
+                rate,
+                sides: Sides::One(a, c),
+            })
         } else {
             None
         };
@@ -65,7 +68,10 @@ fn rule_tokens(rate: u64, text: &[u8]) -> Option<RuleLine<'_>>
         return None;
     }
     if are_signs(b, d, f) && are_names(a, c, e, g) {
-        Some(RuleLine { rate, sides: Sides::Two(a, c, e, g) })
+        Some(RuleLine {
+            rate,
+            sides: Sides::Two(a, c, e, g),
+        })
     } else {
         None
     }

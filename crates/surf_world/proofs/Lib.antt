@@ -9,3 +9,4 @@ pub mod Chosen
 pub mod Agree
 pub mod Renamed
 pub mod Sums
+pub mod Once

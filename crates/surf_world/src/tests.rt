@@ -1,4 +1,5 @@
-ghost use Rattle.std.specs.Prelude.{◌≤◌};
+ghost use Rattle.std.specs.Prelude.{◌≡◌, ◌≤◌, IfOk, length};
+ghost use Rattle.surf_lattice.specs.Shapes.{square};
 
 use crate::{Event, World, choice_laws, renaming_laws};
 use std::alloc::Global;
@@ -38,35 +39,55 @@ fn event(rule: u32, first: Site, second: Option<Site>) -> Event {
     }
 }
 
-#[test]
-fn runs_on_a_square(rt: HostRuntime) -> Result<(), Fail> {
-    let alloc = rt.alloc();
+// a row of three sites that hold 7, 5 and 7
+fn row(alloc: Global) -> Result<World<Square>, Fail>
+    ensures grid { IfOk result (λ w. w.surface.grid ≡ square 3 1) }
+    ensures names { IfOk result (λ w. length w.names ≡ 3) }
+{
     let start = vec![in alloc; 7, 5, 7]?;
-    let mut world = World::new(alloc, Square::new(3, 1), rules(alloc)?, start)?;
-    let west = Site { x: 0, y: 0 };
-    let middle = Site { x: 1, y: 0 };
-    let east = Site { x: 2, y: 0 };
+    Ok(World::new(alloc, Square::new(3, 1), rules(alloc)?, start)?)
+}
+
+const WEST: Site = Site { x: 0, y: 0 };
+
+const MIDDLE: Site = Site { x: 1, y: 0 };
+
+const EAST: Site = Site { x: 2, y: 0 };
+
+#[test]
+fn answers_for_sites_and_places(rt: HostRuntime) -> Result<(), Fail> {
+    let world = row(rt.alloc())?;
     assert_eq!(rt; world.site_count(), 3);
-    assert_eq!(rt; world.place(east), 2);
-    assert_eq!(rt; world.site_at(1), middle);
-    assert_eq!(rt; world.at(east), 7);
+    assert_eq!(rt; world.place(EAST), 2);
+    assert_eq!(rt; world.site_at(1), MIDDLE);
+    assert_eq!(rt; world.at(EAST), 7);
     assert_eq!(rt; world.name_at(1), 5);
     assert_eq!(rt; world.grid().degree(), 4);
     assert_eq!(rt; world.book().len(), 4);
+    Ok(())
+}
+
+#[test]
+fn chooses_by_number(rt: HostRuntime) -> Result<(), Fail> {
+    let world = row(rt.alloc())?;
+    assert_eq!(rt; world.weight_at(MIDDLE), 0);
+    assert_eq!(rt; world.weight_at(WEST), 5);
+    assert_eq!(rt; world.nth_at(WEST, 1), event(3, WEST, None));
+    assert_eq!(rt; world.nth_at(WEST, 2), event(0, WEST, Some(MIDDLE)));
+    Ok(())
+}
+
+#[test]
+fn applies_events_until_stuck(rt: HostRuntime) -> Result<(), Fail> {
+    let mut world = row(rt.alloc())?;
+    assert!(rt; !world.is_enabled(&event(2, WEST, Some(EAST))));
+    let pair = event(0, EAST, Some(MIDDLE));
+    assert!(rt; world.is_enabled(&pair));
+    world.apply(&pair);
+    assert_eq!(rt; world.at(EAST), 8);
+    assert_eq!(rt; world.at(MIDDLE), 9);
     assert!(rt; !world.is_stuck());
-    assert_eq!(rt; world.weight_at(middle), 0);
-    assert_eq!(rt; world.weight_at(west), 5);
-    assert_eq!(rt; world.nth_at(west, 1), event(3, west, None));
-    assert_eq!(rt; world.nth_at(west, 2), event(0, west, Some(middle)));
-    let far = event(2, west, Some(east));
-    assert!(rt; !world.is_enabled(&far));
-    let near = event(0, east, Some(middle));
-    assert!(rt; world.is_enabled(&near));
-    world.apply(&near);
-    assert_eq!(rt; world.at(east), 8);
-    assert_eq!(rt; world.at(middle), 9);
-    assert_eq!(rt; world.at(west), 7);
-    let alone = event(3, west, None);
+    let alone = event(3, WEST, None);
     assert!(rt; world.is_enabled(&alone));
     world.apply(&alone);
     assert!(rt; world.is_stuck());
@@ -78,12 +99,10 @@ fn counts_both_orders_on_a_torus(rt: HostRuntime) -> Result<(), Fail> {
     let alloc = rt.alloc();
     let start = vec![in alloc; 7, 1, 7, 1, 1, 1, 1, 1, 1]?;
     let world = World::new(alloc, Torus::new(Square::new(3, 3)), rules(alloc)?, start)?;
-    let west = Site { x: 0, y: 0 };
-    let east = Site { x: 2, y: 0 };
-    assert_eq!(rt; world.weight_at(west), 6);
-    assert_eq!(rt; world.weight_at(east), 6);
-    assert_eq!(rt; world.nth_at(west, 5), event(2, west, Some(east)));
-    assert_eq!(rt; world.nth_at(east, 2), event(2, east, Some(west)));
+    assert_eq!(rt; world.weight_at(WEST), 6);
+    assert_eq!(rt; world.weight_at(EAST), 6);
+    assert_eq!(rt; world.nth_at(WEST, 5), event(2, WEST, Some(EAST)));
+    assert_eq!(rt; world.nth_at(EAST, 2), event(2, EAST, Some(WEST)));
     choice_laws();
     renaming_laws();
     Ok(())

@@ -1,6 +1,6 @@
-ghost use Rattle.std.specs.Prelude.{◌≡◌, ℕ, ◌+◌, ◌<◌, ◌↔◌, List, [], length, map, take, sum, sum_by, nat_eq, bytes_eq, Contains, IsSome, Some, slice_get};
+ghost use Rattle.std.specs.Prelude.{◌≡◌, ◌≢◌, ℕ, ◌+◌, ◌<◌, ◌↔◌, List, [], length, map, take, sum, sum_by, nat_eq, bytes_eq, AllPairs, Contains, IsSome, Some, slice_get};
 ghost use Rattle.surf_lattice.specs.declared.site.Site.{Site};
-ghost use Rattle.surf_lattice.specs.Grids.{sites};
+ghost use Rattle.surf_lattice.specs.Grids.{IsGrid, sites};
 ghost use Rattle.surf_rules.specs.Names.{text_of, AreDistinct};
 ghost use Rattle.surf_world.specs.declared.event.Event.{Event};
 ghost use Rattle.surf_world.specs.Systems.{Rule, Surface, Enabled, after, IsRun, left_by, Stuck};
@@ -9,11 +9,13 @@ ghost use Rattle.surf_world.specs.Choices.{event_of, choices_at, choices};
 ghost use Rattle.surf_world.specs.Picks.{rate_of, pick, pick_of, weight_of, weights_of, around_event, refreshed};
 ghost use Rattle.surf_world.specs.Renamings.{renamed, AreBelow, IsOneToOne};
 
-/// The laws of choices: they are the enabled events, the weights of the sites sum to their
-/// rates, a number below that sum picks an enabled event, also by a site and what is left of the
-/// number there, and an event changes the weights of its sites and their neighbours alone.
+/// The laws of choices: they are the enabled events, each listed once, also a pair of two equal
+/// names in both orders. The weights of the sites sum to their rates, a number below that sum
+/// picks one, and by its site and what is left of the number there the same one. An event changes
+/// the weights of its sites and their neighbours alone.
 pub fn choice_laws()
     ensures listed { (S : Surface ℕ) (c : List ℕ) (e : Event) → Contains (choices nat_eq S c) e ↔ Enabled S c e }
+    ensures once { (S : Surface ℕ) (c : List ℕ) → IsGrid S.grid → AllPairs (λ d e. d ≢ e) (choices nat_eq S c) }
     ensures stuck { (S : Surface ℕ) (c : List ℕ) → (choices nat_eq S c ≡ []) ↔ Stuck S c }
     ensures rated { (S : Surface ℕ) (c : List ℕ) (e : Event) → Enabled S c e → 0 < rate_of S e }
     ensures both_orders { (S : Surface ℕ) (c : List ℕ) (r : Rule ℕ) (k : ℕ) (p : Site) (q : Site) → slice_get S.rules k ≡ Some r → r.right ≡ Some r.left → Enabled S c (event_of p (Some q) k) → Enabled S c (event_of q (Some p) k) }
@@ -24,8 +26,8 @@ pub fn choice_laws()
     ensures local { (S : Surface ℕ) (c : List ℕ) (e : Event) (ws : List ℕ) → Enabled S c e → ws ≡ map (weight_of S c) (sites S.grid) → refreshed S (after S c e) (around_event S.grid e) ws ≡ map (weight_of S (after S c e)) (sites S.grid) }
 {}
 
-/// The laws of renaming: a surface whose numbers become texts, each another one, keeps its
-/// events, runs and choices, and the texts of a list of distinct texts are such a renaming.
+/// The laws of renaming: a surface whose numbers become texts, no two of them the same, keeps its
+/// events, runs and choices. The texts of a list of distinct texts are such a renaming.
 pub fn renaming_laws()
     ensures events { (f : ℕ → List ℕ) (n : ℕ) (S : Surface ℕ) (c : List ℕ) (e : Event) → IsOneToOne n f → AreBelow n S c → Enabled S c e ↔ Enabled (renamed f S) (map f c) e }
     ensures effects { (f : ℕ → List ℕ) (S : Surface ℕ) (c : List ℕ) (e : Event) → after (renamed f S) (map f c) e ≡ map f (after S c e) }

@@ -1,4 +1,4 @@
-use Rattle.std.proofs.Common.{refl, sym, subst, ap, ◌∙◌, ◌≡◌, true, Some}
+use Rattle.std.proofs.Common.{sym, subst, ap, ◌≡◌, true}
 use Rattle.std.proofs.lemmas.Option.{slice_get_within}
 use Rattle.surf_manifest.specs.Said.{rule_of_sides}
 use Rattle.surf_manifest.specs.WellFormed.{is_rule}
@@ -38,10 +38,12 @@ returns-in_ok-left_after-in-Two-clause-rule c =
     let new = c.intern_two-in-Two-2.new.names in
     let p = c.in_ok-left-in-Two in
     let q = c.in_ok-left_after-in-Two in
-    rw (text_at new p.left c.in-Two.a.now (at_kept 2 mid new p.left c.in-Two.a.now q.ensures.grown p.ensures.first),
+    rw (
+      text_at new p.left c.in-Two.a.now (at_kept 2 mid new p.left c.in-Two.a.now q.ensures.grown p.ensures.first),
       text_at new p.right c.in-Two.b.now (at_kept 2 mid new p.right c.in-Two.b.now q.ensures.grown p.ensures.second),
       text_at new q.left_after c.in-Two.c.now q.ensures.first,
-      text_at new q.right_after c.in-Two.d.now q.ensures.second)
+      text_at new q.right_after c.in-Two.d.now q.ensures.second,
+    )
     (sym (ap (λ s. rule_of_sides c.args.line.now.rate s) c.in-Two.is))
 
 pub returns-in_ok-left_after-in-Two-clause-below : goal.returns-in_ok-left_after-in-Two-clause-below

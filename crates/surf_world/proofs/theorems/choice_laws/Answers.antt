@@ -8,10 +8,14 @@ use Rattle.surf_world.proofs.Listed.{listed_enabled, enabled_listed, both_orders
 use Rattle.surf_world.proofs.Laws.{weights_sum, pick_along}
 use Rattle.surf_world.proofs.Chosen.{pick_has, pick_below, rate_some, stuck_from_none, none_from_stuck}
 use Rattle.surf_world.proofs.Around.{refreshed_is}
+use Rattle.surf_world.proofs.Once.{listed_once}
 use Rattle.surf_world.proofs.theorems.choice_laws.Goals as goal
 
 pub returns-clause-listed : goal.returns-clause-listed
 returns-clause-listed c S d e = (listed_enabled nat_eq number_to number_from S d e, enabled_listed nat_eq number_to number_from S d e)
+
+pub returns-clause-once : goal.returns-clause-once
+returns-clause-once c S d is = listed_once nat_eq S d is
 
 pub returns-clause-stuck : goal.returns-clause-stuck
 returns-clause-stuck c S d = (stuck_from_none S d, none_from_stuck S d)

@@ -1,4 +1,4 @@
-use Rattle.std.proofs.Common.{rules, ap, sym, ◌∙◌, arith, refl, ◌≡◌, ◌+◌, length, [], ◌∷◌, true}
+use Rattle.std.proofs.Common.{rules, ap, sym, ◌∙◌, arith, ◌≡◌, ◌+◌, length, [], ◌∷◌, true}
 use Rattle.std.specs.List.{list_all}
 use Rattle.surf_manifest.specs.Bytes.{tokens_of}
 use Rattle.surf_manifest.specs.Drafts.{held_by}

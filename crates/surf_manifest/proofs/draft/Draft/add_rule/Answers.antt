@@ -1,5 +1,4 @@
-use Rattle.std.proofs.Common.{rules, map, refl, ap, ◌+◌, ◌≡◌, ◌<◌, length}
-use Rattle.surf_rules.specs.Names.{text_of}
+use Rattle.std.proofs.Common.{rules, refl, ap, ◌+◌, ◌<◌, length}
 use Rattle.surf_manifest.specs.Drafts.{named_rule, held_by}
 use Rattle.surf_manifest.specs.Said.{rule_of_line}
 use Rattle.surf_manifest.proofs.DraftLemmas.{rules_full, rules_with}

@@ -1,6 +1,5 @@
-use Rattle.std.proofs.Common.{rules, map, refl, ap, ◌+◌, sym, subst, ◌≡◌, ◌<◌, length}
-use Rattle.surf_rules.specs.Names.{text_of}
-use Rattle.surf_manifest.specs.Drafts.{named_rule, IsGrown, held_by}
+use Rattle.std.proofs.Common.{rules, refl, ap, ◌+◌, sym, subst, ◌<◌, length}
+use Rattle.surf_manifest.specs.Drafts.{IsGrown, held_by}
 use Rattle.surf_manifest.proofs.DraftLemmas.{sites_full, sites_with}
 use Rattle.surf_manifest.proofs.Growth.{rules_kept, grown_with, text_at}
 use Rattle.surf_manifest.proofs.draft.Draft.add_site.Goals as goal

@@ -1,7 +1,7 @@
-use Rattle.std.proofs.Common.{rules, arith, refl, sym, subst, ◌∙◌, ap, ◌≡◌, length, map}
+use Rattle.std.proofs.Common.{subst, ◌∙◌, ap, ◌≡◌, length}
 use Rattle.std.proofs.lemmas.Result.{on_ok_weaker}
-use Rattle.surf_rules.specs.Names.{text_of, with_text}
-use Rattle.surf_manifest.specs.Drafts.{IsGrown, named_rule}
+use Rattle.surf_rules.specs.Names.{with_text}
+use Rattle.surf_manifest.specs.Drafts.{IsGrown}
 use Rattle.surf_manifest.specs.Manifests.{manifest_by, text_by}
 use Rattle.surf_manifest.specs.Numbered.{NamedManifest}
 use Rattle.surf_manifest.proofs.Growth.{grown_by, names_below, names_kept, rules_below, rules_kept}
@@ -28,6 +28,6 @@ returns-clause-grown c =
     let P : NamedManifest → Type 0 = λ v. manifest_by (record a { names = b }) ≡ record { text = v.text; names = with_text v.names t } in
     on_ok_weaker c.intern.result
     (λ e. subst P c.self.view_is
-      (ap (λ v. record { text = v; names = b }) (text_interned 1 a b c.self.invariant (grown_by a.names b t e))
-      ∙ ap (λ v. record { text = text_by a; names = v }) e))
+    (ap (λ v. record { text = v; names = b }) (text_interned 1 a b c.self.invariant (grown_by a.names b t e))
+    ∙ ap (λ v. record { text = text_by a; names = v }) e))
     c.intern.ensures.grown

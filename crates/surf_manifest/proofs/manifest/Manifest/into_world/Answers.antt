@@ -1,4 +1,4 @@
-use Rattle.std.proofs.Common.{rules, arith, refl, sym, subst, ◌∙◌, ap, map, ◌≡◌}
+use Rattle.std.proofs.Common.{sym, subst, ◌∙◌, ap, map, ◌≡◌}
 use Rattle.surf_lattice.specs.AnyGrid.{grid_of}
 use Rattle.surf_lattice.specs.Grids.{Grid}
 use Rattle.surf_world.specs.Worlds.{Placed, rule_of}
@@ -17,8 +17,8 @@ returns-clause-numbered c =
     let grid_is : grid_of c.grid-grid.result ≡ g = c.grid-grid.ensures.grid ∙ ap (λ v. v.text.system.surface.grid) (sym c.self.view_is) in
     let w : Placed = record { surface = record { grid = g; rules = map rule_of a.rules.items }; names = a.start.items } in
     let world_is : c.in_ok-world.world ≡ w =
-        c.in_ok-world.ensures
-        ∙ (ap (λ b. record { surface = record { grid = grid_of c.grid-grid.result; rules = map rule_of b }; names = a.start.items }) c.in_ok-book.ensures
-        ∙ ap (λ v. record { surface = record { grid = v; rules = map rule_of a.rules.items }; names = a.start.items }) grid_is) in
+    c.in_ok-world.ensures
+    ∙ (ap (λ b. record { surface = record { grid = grid_of c.grid-grid.result; rules = map rule_of b }; names = a.start.items }) c.in_ok-book.ensures
+    ∙ ap (λ v. record { surface = record { grid = v; rules = map rule_of a.rules.items }; names = a.start.items }) grid_is) in
     let is : IsNumbered (text_by a).system w a.names = numbered g a.rules.items a.start.items a.names c.len-name_count.ensures.distinct c.self.invariant.rules c.self.invariant.start in
     subst (λ (v : Placed). IsNumbered c.args.self.text.system v a.names) (sym world_is) (subst (λ (v : NamedManifest). IsNumbered v.text.system w a.names) c.self.view_is is)

@@ -1,4 +1,4 @@
-use Rattle.std.proofs.Common.{arith, refl, sym, subst, ◌∙◌, ap, ◌≡◌, ◌+◌, ◌*◌, ◌<◌, length, map, set, length-set}
+use Rattle.std.proofs.Common.{arith, sym, subst, ◌∙◌, ap, ◌≡◌, ◌+◌, ◌*◌, ◌<◌, length, map, set, length-set}
 use Rattle.std.proofs.lemmas.List.{length-map, map-set}
 use Rattle.std.proofs.lemmas.List.Elements.{All-set}
 use Rattle.surf_lattice.specs.Grids.{place}
@@ -18,7 +18,7 @@ invariant_of-self c =
     let count : length a.names ≡ length c.args.self.now.names = ap (λ v. length v.names) c.self.view_is in
     let below : NamesBelow (length a.names) (set a.start.items i c.args.name) = All-set (λ k. k < length a.names) a.start.items i c.args.name (omega (arith, count, c.requires.name)) c.self.invariant.start in
     let same : length (map (text_of a.names) (set a.start.items i c.args.name)) ≡ length (map (text_of a.names) a.start.items) =
-        length-map (set a.start.items i c.args.name) (text_of a.names) ∙ (length-set a.start.items i c.args.name ∙ sym (length-map a.start.items (text_of a.names))) in
+    length-map (set a.start.items i c.args.name) (text_of a.names) ∙ (length-set a.start.items i c.args.name ∙ sym (length-map a.start.items (text_of a.names))) in
     record {
       well_formed = record {
         options = w.options;

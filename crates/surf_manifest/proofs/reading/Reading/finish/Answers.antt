@@ -1,5 +1,4 @@
-use Rattle.std.proofs.Common.{rules, ap, ◌≡◌, Ok, None}
-use Rattle.surf_manifest.specs.Drafts.{held_by}
+use Rattle.std.proofs.Common.{ap, ◌≡◌, Ok, None}
 use Rattle.surf_manifest.specs.Grammar.{ManifestText, manifest_from, unless_fault}
 use Rattle.surf_manifest.specs.Limits.{end_fault, parts_held}
 use Rattle.surf_manifest.specs.Readings.{reached_by}

@@ -1,5 +1,5 @@
-use Rattle.std.proofs.Common.{rules, arith, subst, sym, ◌≡◌, ◌+◌}
-use Rattle.surf_manifest.specs.Drafts.{held_by, HasRoomFor}
+use Rattle.std.proofs.Common.{arith, sym, ◌≡◌, ◌+◌}
+use Rattle.surf_manifest.specs.Drafts.{held_by}
 use Rattle.surf_manifest.specs.Kinds.{line_of_kind}
 use Rattle.surf_manifest.specs.Limits.{counted}
 use Rattle.surf_manifest.specs.Readings.{reached_by}

@@ -1,4 +1,3 @@
-use Rattle.std.proofs.Common.{rules}
 use Rattle.surf_manifest.specs.Drafts.{held_by}
 use Rattle.surf_manifest.specs.Readings.{reached_by}
 use Rattle.surf_manifest.proofs.ReadingLemmas.{content_step}

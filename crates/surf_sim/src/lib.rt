@@ -1,0 +1,18 @@
+//! The simulation of a surface.
+//!
+//! A [`Sim`] draws events one after another. Each is the choice, in the order of
+//! `specs/Simulations.antt`, of a number that is drawn below the sum of the rates; so a seed fixes
+//! all of them. After an event only the weights of its sites and of their neighbours are set, at
+//! most fourteen. [`simulation_laws`] says what the events of a seed are: a run, which ends early
+//! only where nothing can happen, and the same under other names.
+#![tactic(auto)]
+
+mod refresh;
+mod sim;
+mod theorems;
+
+pub use sim::Sim;
+pub use theorems::simulation_laws;
+
+#[cfg(test)]
+mod tests;

@@ -1,0 +1,86 @@
+ghost use Rattle.std.specs.Prelude.{◌≡◌, ◌≤◌, ◌<◌, ◌+◌, ◌^◌, IfSome, flat_map, slice_set, sum, IfOk};
+ghost use Rattle.std.specs.Option.{option_to_list};
+ghost use Rattle.surf_lattice.specs.Grids.{IsInside, place};
+ghost use Rattle.surf_world.specs.Picks.{weight_of, weights_of, around, around_event, refreshed};
+ghost use Rattle.surf_sim.specs.Simulations.{AreWeights};
+
+use std::alloc::Global;
+use surf_base::NoMemory;
+use surf_lattice::{Lattice, Site};
+use surf_pick::Picker;
+use surf_world::{Event, World};
+
+/// The weights of the sites in row-major order.
+pub(crate) fn weights<L: Lattice>(alloc: Global, world: &World<L>) -> Result<Vec<u128>, NoMemory>
+    ensures all { IfOk result (λ v. v.items ≡ weights_of world.now) }
+    ensures right { IfOk result (λ v. AreWeights world.now.surface.grid v.items) }
+    ensures fits { IfOk result (λ v. sum v.items < 2 ^ 128) }
+{
+    let count = world.site_count();
+    let mut weights = Vec::with_capacity(alloc, count).map_err(|_| NoMemory)?;
+    for place in 0..count {
+        let weight = world.weight_at(world.site_at(place));
+        weights.push(weight).map_err(|_| NoMemory)?;
+    }
+    Ok(weights)
+}
+
+/// Sets the weights of the sites of an event and of their neighbours anew.
+pub(crate) fn refresh_event<L: Lattice, P: Picker>(world: &World<L>, picker: &mut P, event: &Event)
+    requires first { IsInside world.now.surface.grid event.now.first }
+    requires second { IfSome event.now.second (IsInside world.now.surface.grid) }
+    requires weights { AreWeights world.now.surface.grid (P.weights picker.old) }
+    ensures set { P.weights picker.new ≡ refreshed world.now.surface world.now.names (around_event world.now.surface.grid event.now) (P.weights picker.old) }
+    ensures weights { AreWeights world.now.surface.grid (P.weights picker.new) }
+    ensures sets { P.sets picker.new ≤ P.sets picker.old + 14 }
+{
+    refresh_around(world, picker, event.first);
+    refresh_second(world, picker, event.second);
+}
+
+fn refresh_second<L: Lattice, P: Picker>(world: &World<L>, picker: &mut P, site: Option<Site>)
+    requires site { IfSome site (IsInside world.now.surface.grid) }
+    requires weights { AreWeights world.now.surface.grid (P.weights picker.old) }
+    ensures set { P.weights picker.new ≡ refreshed world.now.surface world.now.names (flat_map (around world.now.surface.grid) (option_to_list site)) (P.weights picker.old) }
+    ensures weights { AreWeights world.now.surface.grid (P.weights picker.new) }
+    ensures sets { P.sets picker.new ≤ P.sets picker.old + 7 }
+{
+    if let Some(site) = site {
+        refresh_around(world, picker, site);
+    }
+}
+
+fn refresh_around<L: Lattice, P: Picker>(world: &World<L>, picker: &mut P, site: Site)
+    requires site { IsInside world.now.surface.grid site }
+    requires weights { AreWeights world.now.surface.grid (P.weights picker.old) }
+    ensures set { P.weights picker.new ≡ refreshed world.now.surface world.now.names (around world.now.surface.grid site) (P.weights picker.old) }
+    ensures weights { AreWeights world.now.surface.grid (P.weights picker.new) }
+    ensures sets { P.sets picker.new ≤ P.sets picker.old + 7 }
+{
+    refresh(world, picker, site);
+    for direction in 0..world.grid().degree() {
+        refresh_some(world, picker, world.grid().neighbour(site, direction));
+    }
+}
+
+fn refresh_some<L: Lattice, P: Picker>(world: &World<L>, picker: &mut P, site: Option<Site>)
+    requires site { IfSome site (IsInside world.now.surface.grid) }
+    requires weights { AreWeights world.now.surface.grid (P.weights picker.old) }
+    ensures set { P.weights picker.new ≡ refreshed world.now.surface world.now.names (option_to_list site) (P.weights picker.old) }
+    ensures weights { AreWeights world.now.surface.grid (P.weights picker.new) }
+    ensures sets { P.sets picker.new ≤ P.sets picker.old + 1 }
+{
+    if let Some(site) = site {
+        refresh(world, picker, site);
+    }
+}
+
+fn refresh<L: Lattice, P: Picker>(world: &World<L>, picker: &mut P, site: Site)
+    requires site { IsInside world.now.surface.grid site }
+    requires weights { AreWeights world.now.surface.grid (P.weights picker.old) }
+    ensures set { P.weights picker.new ≡ slice_set (P.weights picker.old) (place world.now.surface.grid site) (weight_of world.now.surface world.now.names site) }
+    ensures weights { AreWeights world.now.surface.grid (P.weights picker.new) }
+    ensures sets { P.sets picker.new ≤ P.sets picker.old + 1 }
+{
+    picker.set(world.place(site), world.weight_at(site));
+}

@@ -1,0 +1,121 @@
+-- How a job ends, and which cause each answer then has.
+use Rattle.std.proofs.Common.{ℕ, ◌≡◌, ◌≤◌, ◌<◌, List, length, Option, Some, None, Result, Ok, Err, IfSome, IfOk, IsOk, is_ok, OnOk, OnErr, refl, sym, ◌∙◌, ap, subst, inl, inr, ◌⊎◌, arith}
+use Rattle.std.proofs.lemmas.Bool.{false≢true}
+use Rattle.std.specs.Io.KnownBytes.{Appends}
+use Rattle.rand_core.specs.Stream.{Stream}
+use Rattle.surf_base.specs.Causes.{Rose, HasCause}
+use Rattle.surf_base.specs.Known.{AppendsFront, ReadsWhole}
+use Rattle.surf_base.specs.Emits.{Emits}
+use Rattle.surf_rules.specs.Names.{text_of}
+use Rattle.surf_pick.specs.Draws.{seeded, words_of}
+use Rattle.surf_sim.specs.Simulations.{Simulation}
+use Rattle.surf_manifest.specs.Answers.{Refuses}
+use Rattle.surf_manifest.specs.Grammar.{ManifestText, manifest_of}
+use Rattle.surf_manifest.specs.declared.error.ManifestError.{ManifestError}
+use Rattle.surf_manifest.specs.declared.error.ManifestError.TheVariants as faults
+use Rattle.surf_top.specs.declared.job.Job.{Job}
+use Rattle.surf_top.specs.declared.job.Job.TheVariants.{Run}
+use Rattle.surf_top.specs.declared.status.Status.{Status}
+use Rattle.surf_top.specs.declared.status.Status.TheVariants.{Done, Refused, Usage, ReadFault, WriteFault, NoMemory, TooLong}
+use Rattle.surf_top.specs.Answers.{Ends, HasCauses, IsComplete, PrintsRun, ReadWhole, WroteWhole, WroteFront, limit}
+use Rattle.surf_top.specs.Commands.{IsReady, EndsJob, answer_to}
+use Rattle.surf_top.specs.Outputs.{output_of, printed_run, Shows, ShowsOf}
+use Rattle.surf_top.specs.Prints.{placed_text}
+use Rattle.surf_top.specs.Runs.{run_text, ShowsRun}
+use Rattle.surf_top.proofs.Shown.{numbered_text, numbered_shows}
+
+-- a text that is no manifest is refused
+pub refused_ends : (input : List ℕ) (seed count : ℕ) (old new : Option (List ℕ)) (before now : ℕ) (f : ManifestError) → Refuses (manifest_of input) f → EndsJob (Run seed count) input old new before now (answer_to f)
+refused_ends input seed count old new before now (faults.BadLine n) is = ap (printed_run seed count) is
+refused_ends input seed count old new before now (faults.BadRule n) is = ap (printed_run seed count) is
+refused_ends input seed count old new before now (faults.BadRate n) is = ap (printed_run seed count) is
+refused_ends input seed count old new before now (faults.Ragged n) is = ap (printed_run seed count) is
+refused_ends input seed count old new before now (faults.Include n) is = ap (printed_run seed count) is
+refused_ends input seed count old new before now (faults.BlockTwice n) is = ap (printed_run seed count) is
+refused_ends input seed count old new before now (faults.BadOption n) is = ap (printed_run seed count) is
+refused_ends input seed count old new before now (faults.Unclosed n) is = ap (printed_run seed count) is
+refused_ends input seed count old new before now (faults.MissingBlock b) is = ap (printed_run seed count) is
+refused_ends input seed count old new before now faults.NoSites is = ap (printed_run seed count) is
+refused_ends input seed count old new before now (faults.TooManyRules n) is = ap (printed_run seed count) is
+refused_ends input seed count old new before now (faults.TooManySites n) is = ap (printed_run seed count) is
+refused_ends input seed count old new before now faults.WrapSize is = ap (printed_run seed count) is
+refused_ends input seed count old new before now faults.NoMemory is = tt
+
+-- the text of a simulator of the manifest is the job's output
+module _ (input : List ℕ) (m : ManifestText) (seed count : ℕ) (sim : Simulation) (texts : List (List ℕ)) (read : manifest_of input ≡ Ok m) (ready : IsReady m seed sim texts) where
+  abbrev text : List ℕ
+  text = placed_text (text_of texts) sim.placed (words_of sim.generator) count
+
+  output_is : output_of (Run seed count) input ≡ Ok text
+  output_is =
+      ap (printed_run seed count) read
+      ∙ ap Ok (numbered_text m.system sim.placed texts (words_of (seeded seed)) count ready.numbered)
+      ∙ ap (λ g. Ok (placed_text (text_of texts) sim.placed (words_of g) count)) (sym ready.seeds)
+
+  shown : Shows (Run seed count) input text
+  shown = subst (λ (r : Result ManifestText ManifestError). ShowsOf count r text) (sym read) (numbered_shows m.system sim.placed texts (words_of sim.generator) count ready.numbered)
+
+  pub done_ends : (old new : Option (List ℕ)) (before now : ℕ) → Appends old new text → EndsJob (Run seed count) input old new before now Done
+  done_ends old new before now whole = record { text = text; is = output_is; shows = shown; whole = whole }
+
+  pub cut_ends : (old new : Option (List ℕ)) (before now : ℕ) → Rose before now → AppendsFront old new text → EndsJob (Run seed count) input old new before now WriteFault
+  cut_ends old new before now rose front = (rose, record { text = text; is = output_is; front = front })
+
+told : (o : Option (List ℕ)) (bytes : List ℕ) (P : List ℕ → Type 0) → IfSome o (λ left. bytes ≡ left) → length bytes ≤ limit → P bytes → IfSome o (λ input. (length input ≤ limit) × P input)
+told None bytes P is le p = tt
+told (Some left) bytes P is le p = subst (λ (input : List ℕ). (length input ≤ limit) × P input) is (le, p)
+
+-- the input was read whole, and then the job ended
+pub read_then : (job : Job) (e : Ends) (bytes : List ℕ) (s : Status) → ReadsWhole e.left_before e.left_after bytes → length bytes ≤ limit → EndsJob job bytes e.written_before e.written_after e.writes_before e.writes_after s → HasCauses (Some job) e s
+read_then job e bytes Done read le ends = (read.end, told e.left_before bytes (λ input. WroteWhole job input e.written_before e.written_after) read.all le ends)
+read_then job e bytes (Refused r) read le ends = (read.end, told e.left_before bytes (λ input. output_of job input ≡ Err r) read.all le ends)
+read_then job e bytes Usage read le ends = absurd ends
+read_then job e bytes ReadFault read le ends = absurd ends
+read_then job e bytes WriteFault read le ends = (ends.0, (read.end, told e.left_before bytes (λ input. WroteFront job input e.written_before e.written_after) read.all le ends.1))
+read_then job e bytes NoMemory read le ends = tt
+read_then job e bytes TooLong read le ends = absurd ends
+
+-- the job that was asked for
+pub asked : (o : Option Job) (job : Job) (e : Ends) (s : Status) → o ≡ Some job → HasCauses (Some job) e s → HasCauses o e s
+asked o job e s is h = subst (λ (p : Option Job). HasCauses p e s) (sym is) h
+
+anything : (o : Option (List ℕ)) (P : List ℕ → Type 0) → ((x : List ℕ) → P x) → IfSome o P
+anything None P h = tt
+anything (Some x) P h = h x
+
+each : (o : Option (List ℕ)) (P Q : List ℕ → Type 0) → ((x : List ℕ) → P x → Q x) → IfSome o P → IfSome o Q
+each None P Q h p = tt
+each (Some x) P Q h p = h x p
+
+abbrev IsOver : Job → Status → List ℕ → Type 0
+IsOver job s input = length input ≤ limit → IsOk (output_of job input) → (s ≡ Done) ⊎ (s ≡ NoMemory)
+
+-- the causes leave only Done and want of memory where nothing else can have come
+pub complete : (o : Option Job) (e : Ends) (s : Status) → HasCauses o e s → IsComplete o e s
+complete None e s causes = tt
+complete (Some job) e Done causes = λ reads writes. anything e.left_before (IsOver job Done) (λ x le ok. inl refl)
+complete (Some job) e (Refused r) causes = λ reads writes.
+    each e.left_before (λ input. (length input ≤ limit) × (output_of job input ≡ Err r)) (IsOver job (Refused r)) (λ x p le ok. absurd (false≢true (sym (ap is_ok p.1) ∙ ok))) causes.1
+complete (Some job) e Usage causes = absurd causes
+complete (Some job) e ReadFault causes = λ reads writes. absurd (reads causes)
+complete (Some job) e WriteFault causes = λ reads writes. absurd (writes causes.0)
+complete (Some job) e NoMemory causes = λ reads writes. anything e.left_before (IsOver job NoMemory) (λ x le ok. inr refl)
+complete (Some job) e TooLong causes = λ reads writes.
+    each e.left_before (λ input. limit < length input) (IsOver job TooLong) (λ x lt le ok. absurd (omega (arith, lt, le))) causes
+
+wrote_run : (count : ℕ) (r : Result ManifestText ManifestError) (text : List ℕ) (old new : Option (List ℕ)) → ShowsOf count r text → Appends old new text → IfOk r (λ m. (text : List ℕ) × ShowsRun m.system count text × Appends old new text)
+wrote_run count (Ok m) text old new shows whole = (text, shows, whole)
+wrote_run count (Err f) text old new shows whole = absurd shows
+
+pub prints_run : (o : Option Job) (e : Ends) (s : Status) → HasCauses o e s → PrintsRun o e s
+prints_run None e s causes = tt
+prints_run (Some (Run seed count)) e Done causes = λ done.
+    each e.left_before (λ input. (length input ≤ limit) × WroteWhole (Run seed count) input e.written_before e.written_after)
+        (λ input. IfOk (manifest_of input) (λ m. (text : List ℕ) × ShowsRun m.system count text × Appends e.written_before e.written_after text))
+        (λ input p. wrote_run count (manifest_of input) (p.1).text e.written_before e.written_after (p.1).shows (p.1).whole) causes.1
+prints_run (Some (Run seed count)) e (Refused r) causes = λ done. absurd cc
+prints_run (Some (Run seed count)) e Usage causes = λ done. absurd cc
+prints_run (Some (Run seed count)) e ReadFault causes = λ done. absurd cc
+prints_run (Some (Run seed count)) e WriteFault causes = λ done. absurd cc
+prints_run (Some (Run seed count)) e NoMemory causes = λ done. absurd cc
+prints_run (Some (Run seed count)) e TooLong causes = λ done. absurd cc

@@ -1,0 +1,6 @@
+pub mod Emitting
+pub mod Simulated
+pub mod Rows
+pub mod Words
+pub mod Shown
+pub mod Ends

@@ -1,0 +1,8 @@
+use Rattle.surf_top.proofs.Ends.{complete, prints_run}
+use Rattle.surf_top.proofs.top.surf.Goals as goal
+
+pub returns-clause-complete : goal.returns-clause-complete
+returns-clause-complete g c = complete _ _ c.answer-status.result c.answer-status.ensures.causes
+
+pub returns-clause-runs : goal.returns-clause-runs
+returns-clause-runs g c = prints_run _ _ c.answer-status.result c.answer-status.ensures.causes

@@ -1,0 +1,86 @@
+-- When each answer of the program comes, and what it leaves.
+use Rattle.std.specs.Prelude.{ℕ, ◌≡◌, ◌<◌, ◌≤◌, ◌⊎◌, List, length, Option, Some, None, IfSome, IsSome, IfOk, IsOk, Ok, Err}
+use Rattle.std.specs.Io.KnownBytes.{Appends, IsAtEnd}
+use Rattle.surf_base.specs.Causes.{Rose}
+use Rattle.surf_base.specs.Known.{AppendsFront}
+use Rattle.surf_manifest.specs.Grammar.{manifest_of}
+use Rattle.surf_top.specs.declared.status.Refusal.{Refusal}
+use Rattle.surf_top.specs.declared.status.Status.{Status}
+use Rattle.surf_top.specs.declared.status.Status.TheVariants.{Done, Refused, Usage, ReadFault, WriteFault, NoMemory, TooLong}
+use Rattle.surf_top.specs.declared.job.Job.{Job}
+use Rattle.surf_top.specs.declared.job.Job.TheVariants.{Run}
+use Rattle.surf_top.specs.Outputs.{output_of, Shows}
+use Rattle.surf_top.specs.Runs.{ShowsRun}
+
+-- the most bytes that an input may have
+abbrev pub limit : ℕ
+limit = 268435456
+
+-- the bytes and the counts of faults of a source and of a sink, at a call's entry and at its return
+pub record Ends : Type 0 where
+  pub left_before : Option (List ℕ)
+  pub left_after : Option (List ℕ)
+  pub reads_before : ℕ
+  pub reads_after : ℕ
+  pub written_before : Option (List ℕ)
+  pub written_after : Option (List ℕ)
+  pub writes_before : ℕ
+  pub writes_after : ℕ
+
+-- the input was read to its end, and it is not too long
+abbrev pub ReadWhole : Ends → (List ℕ → Type 0) → Type 0
+ReadWhole e P = IsAtEnd e.left_after × IfSome e.left_before (λ input. (length input ≤ limit) × P input)
+
+-- the output of the job for the input was written, and nothing else
+pub record WroteWhole (job : Job) (input : List ℕ) (old new : Option (List ℕ)) : Type 0 where
+  pub text : List ℕ
+  pub is : output_of job input ≡ Ok text
+  pub shows : Shows job input text
+  pub whole : Appends old new text
+
+-- a front of the output was written
+pub record WroteFront (job : Job) (input : List ℕ) (old new : Option (List ℕ)) : Type 0 where
+  pub text : List ℕ
+  pub is : output_of job input ≡ Ok text
+  pub front : AppendsFront old new text
+
+-- when each answer comes; nothing is said of want of memory
+abbrev pub HasCauses : Option Job → Ends → Status → Type 0
+HasCauses None e Usage = Unit {0}
+HasCauses (Some job) e Usage = ⊥
+HasCauses None e Done = ⊥
+HasCauses (Some job) e Done = ReadWhole e (λ input. WroteWhole job input e.written_before e.written_after)
+HasCauses None e (Refused r) = ⊥
+HasCauses (Some job) e (Refused r) = ReadWhole e (λ input. output_of job input ≡ Err r)
+HasCauses None e ReadFault = ⊥
+HasCauses (Some job) e ReadFault = Rose e.reads_before e.reads_after
+HasCauses None e TooLong = ⊥
+HasCauses (Some job) e TooLong = IfSome e.left_before (λ input. limit < length input)
+HasCauses None e WriteFault = ⊥
+HasCauses (Some job) e WriteFault = Rose e.writes_before e.writes_after × ReadWhole e (λ input. WroteFront job input e.written_before e.written_after)
+HasCauses None e NoMemory = ⊥
+HasCauses (Some job) e NoMemory = Unit {0}
+
+-- Where the words are a command, the input is not too long, it has an output, and no count of faults rose, the answer is Done, or want of memory.
+abbrev pub IsComplete : Option Job → Ends → Status → Type 0
+IsComplete None e status = Unit {0}
+IsComplete (Some job) e status =
+    (Rose e.reads_before e.reads_after → ⊥) → (Rose e.writes_before e.writes_after → ⊥)
+    → IfSome e.left_before (λ input. length input ≤ limit → IsOk (output_of job input) → (status ≡ Done) ⊎ (status ≡ NoMemory))
+
+-- where `run` is done, a text was written that shows a run of the manifest that was read
+abbrev pub PrintsRun : Option Job → Ends → Status → Type 0
+PrintsRun None e status = Unit {0}
+PrintsRun (Some (Run seed count)) e status =
+    status ≡ Done
+    → IfSome e.left_before (λ input. IfOk (manifest_of input) (λ m. (text : List ℕ) × ShowsRun m.system count text × Appends e.written_before e.written_after text))
+
+-- the answers that leave the output as it was
+abbrev pub IsQuiet : Status → Type 0
+IsQuiet Done = ⊥
+IsQuiet WriteFault = ⊥
+IsQuiet (Refused r) = Unit {0}
+IsQuiet Usage = Unit {0}
+IsQuiet ReadFault = Unit {0}
+IsQuiet NoMemory = Unit {0}
+IsQuiet TooLong = Unit {0}

@@ -1,0 +1,47 @@
+-- How a command ends over an input that was read.
+use Rattle.std.specs.Prelude.{ℕ, ◌≡◌, List, Option, Ok, Err}
+use Rattle.surf_base.specs.Causes.{Rose}
+use Rattle.surf_pick.specs.Draws.{seeded}
+use Rattle.surf_sim.specs.Simulations.{Simulation}
+use Rattle.surf_manifest.specs.Grammar.{ManifestText}
+use Rattle.surf_manifest.specs.Numbered.{IsNumbered}
+use Rattle.surf_top.specs.declared.status.Status.{Status}
+use Rattle.surf_top.specs.declared.status.Status.TheVariants.{Done, Refused, Usage, ReadFault, WriteFault, NoMemory, TooLong}
+use Rattle.surf_manifest.specs.declared.error.ManifestError.{ManifestError}
+use Rattle.surf_manifest.specs.declared.error.ManifestError.TheVariants as faults
+use Rattle.surf_top.specs.declared.job.Job.{Job}
+use Rattle.surf_top.specs.declared.status.Refusal.TheVariants.{Manifest}
+use Rattle.surf_top.specs.Outputs.{output_of}
+use Rattle.surf_top.specs.Answers.{WroteWhole, WroteFront}
+
+-- a simulator of the manifest that no event was taken of, and the texts of its numbers
+pub record IsReady (m : ManifestText) (seed : ℕ) (sim : Simulation) (texts : List (List ℕ)) : Type 0 where
+  pub numbered : IsNumbered m.system sim.placed texts
+  pub seeds : sim.generator ≡ seeded seed
+
+-- which answers a job may give for an input that was read, and what it then wrote
+abbrev pub EndsJob : Job → List ℕ → Option (List ℕ) → Option (List ℕ) → ℕ → ℕ → Status → Type 0
+EndsJob job input old new before now Done = WroteWhole job input old new
+EndsJob job input old new before now (Refused r) = output_of job input ≡ Err r
+EndsJob job input old new before now WriteFault = Rose before now × WroteFront job input old new
+EndsJob job input old new before now NoMemory = Unit {0}
+EndsJob job input old new before now Usage = ⊥
+EndsJob job input old new before now ReadFault = ⊥
+EndsJob job input old new before now TooLong = ⊥
+
+-- a fault of a manifest refuses it; want of memory is an answer of its own
+abbrev pub answer_to : ManifestError → Status
+answer_to (faults.BadLine n) = Refused (Manifest (faults.BadLine n))
+answer_to (faults.BadRule n) = Refused (Manifest (faults.BadRule n))
+answer_to (faults.BadRate n) = Refused (Manifest (faults.BadRate n))
+answer_to (faults.Ragged n) = Refused (Manifest (faults.Ragged n))
+answer_to (faults.Include n) = Refused (Manifest (faults.Include n))
+answer_to (faults.BlockTwice n) = Refused (Manifest (faults.BlockTwice n))
+answer_to (faults.BadOption n) = Refused (Manifest (faults.BadOption n))
+answer_to (faults.Unclosed n) = Refused (Manifest (faults.Unclosed n))
+answer_to (faults.MissingBlock b) = Refused (Manifest (faults.MissingBlock b))
+answer_to faults.NoSites = Refused (Manifest faults.NoSites)
+answer_to (faults.TooManyRules n) = Refused (Manifest (faults.TooManyRules n))
+answer_to (faults.TooManySites n) = Refused (Manifest (faults.TooManySites n))
+answer_to faults.WrapSize = Refused (Manifest faults.WrapSize)
+answer_to faults.NoMemory = NoMemory

@@ -1,0 +1,19 @@
+//! The program as one call.
+//!
+//! `surf` reads its words and its input, writes its output and notes why it did not end well. Its
+//! contract says which text each command writes, when each answer comes and what it leaves, over any
+//! source and sinks; `specs/Outputs.antt` and `specs/Answers.antt` hold the definitions.
+#![tactic(auto)]
+
+mod events;
+mod job;
+mod print;
+mod reasons;
+mod run;
+mod status;
+mod top;
+
+pub use job::Job;
+pub use reasons::note;
+pub use status::{Refusal, Status};
+pub use top::surf;

@@ -1,0 +1,46 @@
+ghost use Rattle.std.specs.Prelude.{◌≡◌};
+
+use surf_manifest::ManifestError;
+
+/// Why an input is refused. It never holds want of memory.
+#[derive(Debug, Drop)]
+pub enum Refusal {
+    Manifest(ManifestError),
+}
+
+/// How a call of the program ended.
+#[derive(Debug, Drop)]
+pub enum Status {
+    /// The output was written whole.
+    Done,
+    /// The input was read whole, and it is not what the command asks for.
+    Refused(Refusal),
+    /// The words are no command. Nothing was read.
+    Usage,
+    ReadFault,
+    /// A front of the output was written.
+    WriteFault,
+    NoMemory,
+    /// The input has more than 268,435,456 bytes.
+    TooLong,
+}
+
+impl Status {
+    ghost use Rattle.surf_top.specs.Notes.{code_of};
+
+    /// The exit status: 0 for done, 1 refused, 2 usage, 4 a fault of reading, 5 of
+    /// writing, 6 no memory, 7 too long.
+    pub fn code(&self) -> u8
+        ensures { result ≡ code_of self.now }
+    {
+        match self {
+            Status::Done => 0,
+            Status::Refused(_) => 1,
+            Status::Usage => 2,
+            Status::ReadFault => 4,
+            Status::WriteFault => 5,
+            Status::NoMemory => 6,
+            Status::TooLong => 7,
+        }
+    }
+}

@@ -1,0 +1,84 @@
+ghost use Rattle.std.specs.Prelude.{◌≡◌, ◌≤◌, length, map, string_bytes};
+ghost use Rattle.surf_top.specs.Answers.{HasCauses, IsComplete, IsQuiet, PrintsRun};
+ghost use Rattle.surf_top.specs.Commands.{EndsJob};
+ghost use Rattle.surf_top.specs.Notes.{Notes, note_of};
+ghost use Rattle.surf_top.specs.Outputs.{job_of};
+
+use crate::{Job, Status};
+use crate::job::read_job;
+use crate::reasons::note;
+use crate::run::run;
+use std::alloc::Global;
+use surf_base::{ReadAllError, Sink, Source, read_all};
+
+/// The most bytes that an input may have.
+const LIMIT: u64 = 268_435_456;
+
+fn carry_out<K: Sink>(alloc: Global, job: Job, input: Vec<u8>, out: &mut K) -> Status
+    requires { length input.items ≤ 268435456 }
+    ensures ends { EndsJob job input.items (K.written out.old) (K.written out.new) (K.faults out.old) (K.faults out.new) result }
+    ensures quiet { IsQuiet result → out.new ≡ out.old }
+{
+    match job {
+        Job::Run { seed, count } => run(alloc, input, seed, count, out),
+    }
+}
+
+// What the program answers, before its notes.
+fn answer<S: Source, K: Sink>(
+    alloc: Global,
+    words: &[String],
+    source: &mut S,
+    out: &mut K,
+) -> Status
+    ensures causes { HasCauses (job_of (map string_bytes words.now)) (record {
+        left_before = S.left source.old; left_after = S.left source.new;
+        reads_before = S.faults source.old; reads_after = S.faults source.new;
+        written_before = K.written out.old; written_after = K.written out.new;
+        writes_before = K.faults out.old; writes_after = K.faults out.new }) result }
+    ensures quiet { IsQuiet result → out.new ≡ out.old }
+    ensures unread { result ≡ Status.Usage → source.new ≡ source.old }
+{
+    let Some(job) = read_job(words) else {
+        return Status::Usage;
+    };
+    match read_all(alloc, source, LIMIT) {
+        Ok(input) => carry_out(alloc, job, input, out),
+        Err(ReadAllError::TooLong) => Status::TooLong,
+        Err(ReadAllError::ReadFault) => Status::ReadFault,
+        Err(ReadAllError::NoMemory) => Status::NoMemory,
+    }
+}
+
+/// The program: reads its words and its input, writes its output, and notes why it did not end
+/// well. The commands are those of `surf_words`; the ones that are not built yet answer `Usage`.
+pub fn surf<S: Source, K: Sink, N: Sink>(
+    alloc: Global,
+    words: &[String],
+    source: &mut S,
+    out: &mut K,
+    notes: &mut N,
+) -> Status
+    ensures causes { HasCauses (job_of (map string_bytes words.now)) (record {
+        left_before = S.left source.old; left_after = S.left source.new;
+        reads_before = S.faults source.old; reads_after = S.faults source.new;
+        written_before = K.written out.old; written_after = K.written out.new;
+        writes_before = K.faults out.old; writes_after = K.faults out.new }) result }
+    ensures complete { IsComplete (job_of (map string_bytes words.now)) (record {
+        left_before = S.left source.old; left_after = S.left source.new;
+        reads_before = S.faults source.old; reads_after = S.faults source.new;
+        written_before = K.written out.old; written_after = K.written out.new;
+        writes_before = K.faults out.old; writes_after = K.faults out.new }) result }
+    ensures runs { PrintsRun (job_of (map string_bytes words.now)) (record {
+        left_before = S.left source.old; left_after = S.left source.new;
+        reads_before = S.faults source.old; reads_after = S.faults source.new;
+        written_before = K.written out.old; written_after = K.written out.new;
+        writes_before = K.faults out.old; writes_after = K.faults out.new }) result }
+    ensures quiet { IsQuiet result → out.new ≡ out.old }
+    ensures unread { result ≡ Status.Usage → source.new ≡ source.old }
+    ensures noted { Notes (N.written notes.old) (N.written notes.new) (N.faults notes.old) (N.faults notes.new) (note_of result) }
+{
+    let status = answer(alloc, words, source, out);
+    note(&status, notes);
+    status
+}
