@@ -1,6 +1,6 @@
 -- Texts that grow by lines, by names and by sides of rules.
-use Rattle.std.proofs.Common.{ℕ, zero, suc, ◌≡◌, ◌+◌, ◌-◌, ◌*◌, ◌<◌, ◌≤◌, List, [], ◌∷◌, ◌++◌, length, map, drop, take, codes, get_or, Option, Some, None, Result, Ok, Err, OnOk, MatchOption, Bor, refl, sym, ◌∙◌, ap, arith, append-nil, append_assoc, subst, All, drop-cons, add-one}
-use Rattle.std.proofs.lemmas.List.{drop_all, take-map, drop-map}
+use Rattle.std.proofs.Common.{ℕ, suc, ◌≡◌, ◌+◌, ◌-◌, ◌*◌, ◌<◌, List, [], ◌∷◌, ◌++◌, map, drop, take, codes, Option, Some, None, Result, Ok, Err, OnOk, MatchOption, Bor, refl, sym, ◌∙◌, ap, arith, append-nil, append_assoc, subst, All}
+use Rattle.std.proofs.lemmas.List.{take-map, drop-map}
 use Rattle.std.proofs.lemmas.List.Elements.{All-drop}
 use Rattle.std.specs.Option.{option_copied}
 use Rattle.std.proofs.Math.Nat.{mul-suc}

@@ -1,7 +1,6 @@
 -- The steps over the printed lines give the manifest.
 use Rattle.std.proofs.Common.{ℕ, zero, suc, ◌≡◌, ◌+◌, ◌*◌, ◌<◌, ◌≤◌, List, [], ◌∷◌, ◌++◌, length, map, take, drop, codes, refl, sym, ◌∙◌, ap, arith, Bool, true, false, ◌||◌, ◌==◌, nat_le, Option, Some, None, Result, Ok, append-nil, append_assoc, if◌then◌else◌, length-drop}
 use Rattle.std.specs.List.{list_all}
-use Rattle.std.specs.Fmt.{decimal}
 use Rattle.std.proofs.Math.Nat.{mul-suc}
 use Rattle.std.proofs.lemmas.Bool.{and_parts, eq-eqb, leb-true}
 use Rattle.std.proofs.lemmas.List.{length-take-le, take-append-drop}

@@ -15,7 +15,7 @@ use Rattle.surf_manifest.specs.Steps.{nothing}
 use Rattle.surf_manifest.specs.Bytes.{rows_of}
 use Rattle.surf_manifest.specs.WellFormed.{are_colours, IsWellFormed}
 use Rattle.surf_manifest_print.specs.Legends.{LegendText, IsLegend}
-use Rattle.surf_manifest_print.specs.Prints.{option_text, rule_text, geometry_text, wrap_text, colour_lines, block_lines, rule_block, state_block, legend_lines, print_lines, print_of, ReadsPrint, formatted, formatted_manifest, KeepsFormat}
+use Rattle.surf_manifest_print.specs.Prints.{option_text, rule_text, geometry_text, wrap_text, colour_lines, block_lines, state_block, legend_lines, print_lines, print_of, ReadsPrint, formatted, formatted_manifest, KeepsFormat}
 use Rattle.surf_manifest_print.proofs.Segments.{run_texts, at, past, up, up_is, split, step_line, step_item, row_step, run_legend, legend_end, run_options, run_rules, run_colours, run_rows}
 use Rattle.surf_manifest.proofs.StepLemmas.{steps_read}
 use Rattle.surf_manifest.proofs.Good.{gives_well_formed}

@@ -1,4 +1,4 @@
-use Rattle.std.proofs.Common.{◌≡◌, ◌++◌, drop, map}
+use Rattle.std.proofs.Common.{◌≡◌, ◌++◌, drop}
 use Rattle.surf_manifest.specs.Bytes.{ended}
 use Rattle.surf_manifest_print.proofs.printer.Printer.put_lines.Given as goal
 

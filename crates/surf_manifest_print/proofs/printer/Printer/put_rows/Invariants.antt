@@ -1,4 +1,4 @@
-use Rattle.std.proofs.Common.{◌≡◌, ◌++◌, ◌*◌, ◌-◌, ◌≤◌, map, length}
+use Rattle.std.proofs.Common.{◌≡◌, ◌++◌, ◌*◌, ◌-◌, map, length}
 use Rattle.surf_manifest.specs.Bytes.{ended, rows_of, spaced}
 use Rattle.surf_manifest.specs.Drafts.{NamesBelow}
 use Rattle.surf_rules.specs.Names.{text_of}

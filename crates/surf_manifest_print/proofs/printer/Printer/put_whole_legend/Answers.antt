@@ -1,4 +1,4 @@
-use Rattle.std.proofs.Common.{rules, ◌≡◌, ◌∙◌, ◌++◌, ◌∷◌, [], ap, sym, map, codes}
+use Rattle.std.proofs.Common.{rules, ◌≡◌, ◌∙◌, ◌++◌, ◌∷◌, [], ap, map, codes}
 use Rattle.surf_manifest.specs.Bytes.{ended}
 use Rattle.surf_manifest_print.specs.Prints.{place_text, events_text}
 use Rattle.surf_manifest_print.proofs.PrintLemmas.{legend_put}
