@@ -1,8 +1,10 @@
 // The canonical text of a manifest.
 ghost use Rattle.std.specs.Option.{option_copied};
-ghost use Rattle.std.specs.Prelude.{◌++◌, ◌∷◌, ◌≡◌, IfOk, IfSome, None, OnOk, [], codes, map};
+ghost use Rattle.std.specs.Prelude.{◌++◌, ◌∷◌, ◌≡◌, IfOk, IfSome, None, Ok, OnOk, [], codes, map};
 ghost use Rattle.surf_manifest.specs.Bytes.{ended, rows_of, spaced};
-ghost use Rattle.surf_manifest_print.specs.Legends.{HasWords};
+ghost use Rattle.surf_manifest.specs.Grammar.{manifest_of};
+ghost use Rattle.surf_manifest.specs.WellFormed.{IsWellFormed};
+ghost use Rattle.surf_manifest_print.specs.Legends.{HasWords, IsLegend};
 ghost use Rattle.surf_manifest_print.specs.Prints.{print_of, rule_block, state_block};
 
 use crate::legend::Legend;
@@ -36,7 +38,8 @@ impl Printer {
 
     // Appends all lines of a manifest but those of a legend.
     fn put_manifest(&mut self, manifest: &Manifest) -> Result<(), NoMemory>
-        ensures { OnOk result (self.new ≡ self.old ++ print_of manifest.now.text None) }
+        ensures text { OnOk result (self.new ≡ self.old ++ print_of manifest.now.text None) }
+        ensures well_formed { IsWellFormed manifest.now.text }
     {
         self.put_geometry(manifest.kind())?;
         self.put_wrap(manifest.wrap())?;
@@ -58,7 +61,8 @@ pub fn print_manifest(
     legend: Option<&Legend>,
 ) -> Result<Vec<u8>, NoMemory>
     requires { IfSome legend (λ l. HasWords l.now) }
-    ensures { IfOk result (λ v. v.items ≡ print_of manifest.now.text (option_copied legend.entry)) }
+    ensures text { IfOk result (λ v. v.items ≡ print_of manifest.now.text (option_copied legend.entry)) }
+    ensures read { IfOk result (λ v. IsLegend (option_copied legend.entry) → manifest_of v.items ≡ Ok manifest.now.text) }
 {
     let room = manifest_room(manifest).saturating_add(legend_room(legend));
     let mut printer = Printer::with_room(alloc, room)?;

@@ -4,8 +4,8 @@ use Rattle.surf_manifest_print.specs.Prints.{geometry_text, wrap_text, option_te
 use Rattle.surf_manifest_print.proofs.PrintLemmas.{manifest_put, copied_is}
 use Rattle.surf_manifest_print.proofs.printer.Printer.put_manifest.Goals as goal
 
-pub returns : goal.returns
-returns c =
+pub returns-clause-text : goal.returns-clause-text
+returns-clause-text c =
     let m = c.args.manifest.now.text in
     manifest_put m _ _ _ _ _ _ _
     (c.in_ok-put_geometry.ensures ∙ ap (λ v. c.args.self.now ++ (geometry_text v ++ 10 ∷ [])) c.kind.ensures.kind)
