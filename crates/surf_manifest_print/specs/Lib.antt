@@ -1,0 +1,3 @@
+pub mod Legends
+pub mod Prints
+pub mod Rows
