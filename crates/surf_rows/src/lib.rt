@@ -8,6 +8,8 @@ mod calling;
 #[cfg(test)]
 mod faults;
 #[cfg(test)]
+mod formats;
+#[cfg(test)]
 mod pickers;
 #[cfg(test)]
 mod refusals;

@@ -68,10 +68,12 @@ fn first_faults_are_named(rt: HostRuntime) -> Result<(), Fail> {
         ),
     ] {
         let input = joined(rt.alloc(), &[first, second, third])?;
-        let answer = call(rt.alloc(), "run 1 0", &input, calm())?;
         let line = joined(rt.alloc(), &["surf: refused ", note, "\n"])?;
-        assert!(rt; answer.status == 1 && answer.out.is_empty(), "{note}");
-        assert_eq!(rt; answer.notes.as_slice(), line.as_slice());
+        for words in ["run 1 0", "format"] {
+            let answer = call(rt.alloc(), words, &input, calm())?;
+            assert!(rt; answer.status == 1 && answer.out.is_empty(), "{note}");
+            assert_eq!(rt; answer.notes.as_slice(), line.as_slice());
+        }
     }
     Ok(())
 }

@@ -20,8 +20,8 @@ nothing old held a le = record { whole = sent_nothing old held; front = tt; late
 pub all_sent : (old new : Option (List ℕ)) (held left text : List ℕ) → held ≡ [] → left ≡ [] → Sent old new held left text → Appends old new text
 all_sent old new held left text none empty s =
     subst (λ (t : List ℕ). Appends old new t)
-        (sym (append-nil s.sent) ∙ ap (λ t. s.sent ++ t) (sym empty) ∙ s.all ∙ ap (λ t. t ++ text) none)
-        s.appended
+    (sym (append-nil s.sent) ∙ ap (λ t. s.sent ++ t) (sym empty) ∙ s.all ∙ ap (λ t. t ++ text) none)
+    s.appended
 
 pub front_all : (old new : Option (List ℕ)) (text : List ℕ) → Appends old new text → AppendsFront old new text
 front_all old new text p = front_of old new text [] text (append-nil text) p

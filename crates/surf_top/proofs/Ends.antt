@@ -9,37 +9,18 @@ use Rattle.surf_base.specs.Emits.{Emits}
 use Rattle.surf_rules.specs.Names.{text_of}
 use Rattle.surf_pick.specs.Draws.{seeded, words_of}
 use Rattle.surf_sim.specs.Simulations.{Simulation}
-use Rattle.surf_manifest.specs.Answers.{Refuses}
 use Rattle.surf_manifest.specs.Grammar.{ManifestText, manifest_of}
 use Rattle.surf_manifest.specs.declared.error.ManifestError.{ManifestError}
-use Rattle.surf_manifest.specs.declared.error.ManifestError.TheVariants as faults
 use Rattle.surf_top.specs.declared.job.Job.{Job}
-use Rattle.surf_top.specs.declared.job.Job.TheVariants.{Run}
+use Rattle.surf_top.specs.declared.job.Job.TheVariants.{Run, Format}
 use Rattle.surf_top.specs.declared.status.Status.{Status}
 use Rattle.surf_top.specs.declared.status.Status.TheVariants.{Done, Refused, Usage, ReadFault, WriteFault, NoMemory, TooLong}
 use Rattle.surf_top.specs.Answers.{Ends, HasCauses, IsComplete, PrintsRun, ReadWhole, WroteWhole, WroteFront, limit}
-use Rattle.surf_top.specs.Commands.{IsReady, EndsJob, answer_to}
+use Rattle.surf_top.specs.Commands.{IsReady, EndsJob}
 use Rattle.surf_top.specs.Outputs.{output_of, printed_run, Shows, ShowsOf}
 use Rattle.surf_top.specs.Prints.{placed_text}
 use Rattle.surf_top.specs.Runs.{run_text, ShowsRun}
 use Rattle.surf_top.proofs.Shown.{numbered_text, numbered_shows}
-
--- a text that is no manifest is refused
-pub refused_ends : (input : List ℕ) (seed count : ℕ) (old new : Option (List ℕ)) (before now : ℕ) (f : ManifestError) → Refuses (manifest_of input) f → EndsJob (Run seed count) input old new before now (answer_to f)
-refused_ends input seed count old new before now (faults.BadLine n) is = ap (printed_run seed count) is
-refused_ends input seed count old new before now (faults.BadRule n) is = ap (printed_run seed count) is
-refused_ends input seed count old new before now (faults.BadRate n) is = ap (printed_run seed count) is
-refused_ends input seed count old new before now (faults.Ragged n) is = ap (printed_run seed count) is
-refused_ends input seed count old new before now (faults.Include n) is = ap (printed_run seed count) is
-refused_ends input seed count old new before now (faults.BlockTwice n) is = ap (printed_run seed count) is
-refused_ends input seed count old new before now (faults.BadOption n) is = ap (printed_run seed count) is
-refused_ends input seed count old new before now (faults.Unclosed n) is = ap (printed_run seed count) is
-refused_ends input seed count old new before now (faults.MissingBlock b) is = ap (printed_run seed count) is
-refused_ends input seed count old new before now faults.NoSites is = ap (printed_run seed count) is
-refused_ends input seed count old new before now (faults.TooManyRules n) is = ap (printed_run seed count) is
-refused_ends input seed count old new before now (faults.TooManySites n) is = ap (printed_run seed count) is
-refused_ends input seed count old new before now faults.WrapSize is = ap (printed_run seed count) is
-refused_ends input seed count old new before now faults.NoMemory is = tt
 
 -- the text of a simulator of the manifest is the job's output
 module _ (input : List ℕ) (m : ManifestText) (seed count : ℕ) (sim : Simulation) (texts : List (List ℕ)) (read : manifest_of input ≡ Ok m) (ready : IsReady m seed sim texts) where
@@ -109,10 +90,11 @@ wrote_run count (Err f) text old new shows whole = absurd shows
 
 pub prints_run : (o : Option Job) (e : Ends) (s : Status) → HasCauses o e s → PrintsRun o e s
 prints_run None e s causes = tt
+prints_run (Some Format) e s causes = tt
 prints_run (Some (Run seed count)) e Done causes = λ done.
     each e.left_before (λ input. (length input ≤ limit) × WroteWhole (Run seed count) input e.written_before e.written_after)
-        (λ input. IfOk (manifest_of input) (λ m. (text : List ℕ) × ShowsRun m.system count text × Appends e.written_before e.written_after text))
-        (λ input p. wrote_run count (manifest_of input) (p.1).text e.written_before e.written_after (p.1).shows (p.1).whole) causes.1
+    (λ input. IfOk (manifest_of input) (λ m. (text : List ℕ) × ShowsRun m.system count text × Appends e.written_before e.written_after text))
+    (λ input p. wrote_run count (manifest_of input) (p.1).text e.written_before e.written_after (p.1).shows (p.1).whole) causes.1
 prints_run (Some (Run seed count)) e (Refused r) causes = λ done. absurd cc
 prints_run (Some (Run seed count)) e Usage causes = λ done. absurd cc
 prints_run (Some (Run seed count)) e ReadFault causes = λ done. absurd cc

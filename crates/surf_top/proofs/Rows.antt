@@ -56,7 +56,7 @@ module _ (width : ℕ) (row : List (List ℕ)) (len : length row ≡ width) (x :
       ap (cells width 0) took
       ∙ cells_append width 0 (take x row) (t ∷ [])
       ∙ ap (λ k. cells width 0 (take x row) ++ cells width k (t ∷ []))
-          (let e : 0 + length (take x row) ≡ x = omega (arith, length-take-le x row (omega (arith, within))) in e)
+      (let e : 0 + length (take x row) ≡ x = omega (arith, length-take-le x row (omega (arith, within))) in e)
       ∙ ap (λ s. cells width 0 (take x row) ++ s) (append-nil (t ++ behind_name width x ∷ []))
 
   -- the whole row around it
@@ -66,14 +66,14 @@ module _ (width : ℕ) (row : List (List ℕ)) (len : length row ≡ width) (x :
       ∙ cells_append width 0 (take (x + 1) row) (drop (x + 1) row)
       ∙ ap (λ s. s ++ cells width (0 + length (take (x + 1) row)) (drop (x + 1) row)) cell_more
       ∙ ap (λ k. (cells width 0 (take x row) ++ (t ++ behind_name width x ∷ [])) ++ cells width k (drop (x + 1) row))
-          (let e : 0 + length (take (x + 1) row) ≡ x + 1 = omega (arith, length-take-le (x + 1) row (omega (arith, within))) in e)
+      (let e : 0 + length (take (x + 1) row) ≡ x + 1 = omega (arith, length-take-le (x + 1) row (omega (arith, within))) in e)
       ∙ append_assoc (cells width 0 (take x row)) (t ++ behind_name width x ∷ []) (cells width (x + 1) (drop (x + 1) row))
 
 pub row_long : (width height y : ℕ) (names : List (List ℕ)) → length names ≡ width * height → y < height → length (take width (drop (y * width) names)) ≡ width
 row_long width height y names len lt =
     length-take-le width (drop (y * width) names)
-        (let fits : (y + 1) * width ≤ height * width = mul-le-mul_right width (omega (arith, lt)) in
-         omega (arith, fits, length-drop (y * width) names, len))
+    (let fits : (y + 1) * width ≤ height * width = mul-le-mul_right width (omega (arith, lt)) in
+    omega (arith, fits, length-drop (y * width) names, len))
 
 pub row_at : (width k x : ℕ) (names : List (List ℕ)) (t : List ℕ) → x < width → length (take width (drop k names)) ≡ width → slice_get names (k + x) ≡ Some t → slice_get (take width (drop k names)) x ≡ Some t
 row_at width k x names t lt len at =
@@ -89,7 +89,7 @@ rows_append width (suc a) b names =
     ap (λ k. rows_of width k names) (let e : suc a + b ≡ suc (a + b) = omega arith in e)
     ∙ ap (λ rs. take width names ∷ rs) (rows_append width a b (drop width names))
     ∙ ap (λ l. (take width names ∷ rows_of width a (drop width names)) ++ rows_of width b l)
-        (drop-drop (a * width) width names ∙ ap (λ k. drop k names) (let e : width + a * width ≡ suc a * width = omega arith in e))
+    (drop-drop (a * width) width names ∙ ap (λ k. drop k names) (let e : width + a * width ≡ suc a * width = omega arith in e))
 
 pub ended_append : (ts us : List (List ℕ)) → ended (ts ++ us) ≡ ended ts ++ ended us
 ended_append [] us = refl
@@ -115,7 +115,7 @@ row_split width height y names lt =
     ap (λ k. row_lines width k names) (let e : height ≡ y + suc (height - (y + 1)) = omega (arith, lt) in e)
     ∙ lines_append width y (suc (height - (y + 1))) names
     ∙ ap (λ s. row_lines width y names ++ s)
-        (sym (append_assoc (spaced (take width (drop (y * width) names))) (10 ∷ []) (row_lines width (height - (y + 1)) (drop width (drop (y * width) names)))))
+    (sym (append_assoc (spaced (take width (drop (y * width) names))) (10 ∷ []) (row_lines width (height - (y + 1)) (drop width (drop (y * width) names)))))
 
 -- a part of a text was cut short, after others were taken
 pub cut_within : {T U E : Type 0} (old mid new : Option (List ℕ)) (held kept left : List ℕ) (a b c : ℕ) (xs ys zs text : List ℕ) (r : Result T E) (x : E) → text ≡ xs ++ (ys ++ zs) → Sent old mid held kept xs → a ≤ b → r ≡ Err x → Emits mid new kept left b c ys r
@@ -141,21 +141,21 @@ module _ (width : ℕ) (row : List (List ℕ)) (len : length row ≡ width) (x :
   pub cell_sent : (old mid new : Option (List ℕ)) (held kept left : List ℕ) → Sent old mid held kept (cells width 0 (take x row)) → Sent mid new kept left (t ++ behind ∷ []) → Sent old new held left (cells width 0 (take (x + 1) row))
   cell_sent old mid new held kept left before cell =
       sent_part old mid new held kept left (cells width 0 (take x row)) (t ++ behind_name width x ∷ []) (cells width 0 (take (x + 1) row)) (cell_more width row len x t at) before
-          (subst (λ (b : ℕ). Sent mid new kept left (t ++ b ∷ [])) is cell)
+      (subst (λ (b : ℕ). Sent mid new kept left (t ++ b ∷ [])) is cell)
 
   pub cell_cut : {T U E : Type 0} (old mid new : Option (List ℕ)) (held kept left : List ℕ) (a b c : ℕ) (r : Result T E) (y : E) → 1 ≤ width → Sent old mid held kept (cells width 0 (take x row)) → a ≤ b → r ≡ Err y → Emits mid new kept left b c (t ++ behind ∷ []) r
       → Emits {T = U} {E = E} old new held left a c (spaced row ++ 10 ∷ []) (Err y)
   cell_cut old mid new held kept left a b c r y some before le err cell =
       cut_within old mid new held kept left a b c (cells width 0 (take x row)) (t ++ behind_name width x ∷ []) (cells width (x + 1) (drop (x + 1) row)) (spaced row ++ 10 ∷ []) r y
-          (sym (whole_row width row len some) ∙ cell_split width row len x t at) before le err
-          (subst (λ (d : ℕ). Emits mid new kept left b c (t ++ d ∷ []) r) is cell)
+      (sym (whole_row width row len some) ∙ cell_split width row len x t at) before le err
+      (subst (λ (d : ℕ). Emits mid new kept left b c (t ++ d ∷ []) r) is cell)
 
 -- all names of a row were printed
 pub row_done : {E : Type 0} (width : ℕ) (row : List (List ℕ)) (x : ℕ) (old new : Option (List ℕ)) (held left : List ℕ) (a c : ℕ) → length row ≡ width → 1 ≤ width → width ≤ x → Sent old new held left (cells width 0 (take x row)) → a ≤ c
     → Emits {T = Unit {0}} {E = E} old new held left a c (spaced row ++ 10 ∷ []) (Ok tt)
 row_done width row x old new held left a c len some le s later =
     all_emitted old new held left a c (cells width 0 (take x row)) (spaced row ++ 10 ∷ [])
-        (sym (whole_row width row len some) ∙ ap (cells width 0) (sym (take_all x row (omega (arith, le, len))))) s later
+    (sym (whole_row width row len some) ∙ ap (cells width 0) (sym (take_all x row (omega (arith, le, len))))) s later
 
 -- all rows were printed
 pub rows_done : {E : Type 0} (width height y : ℕ) (names : List (List ℕ)) (old new : Option (List ℕ)) (held left : List ℕ) (a c : ℕ) → y ≡ height → Sent old new held left (row_lines width y names) → a ≤ c

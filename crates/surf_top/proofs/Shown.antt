@@ -73,7 +73,7 @@ module _ (texts : List (List ℕ)) (w : Placed) (distinct : AreDistinct texts) (
 pub numbered_text : (S : System (List ℕ)) (w : Placed) (texts : List (List ℕ)) (s : Stream) (count : ℕ) → IsNumbered S w texts → text_of_events S (sim_events bytes_eq S.surface S.start s count) ≡ placed_text (text_of texts) w s count
 numbered_text S w texts s count n =
     subst (λ (T : System (List ℕ)). text_of_events T (sim_events bytes_eq T.surface T.start s count) ≡ placed_text (text_of texts) w s count) n.named
-        (whole_text texts w n.distinct n.below s count)
+    (whole_text texts w n.distinct n.below s count)
 
 pub numbered_shows : (S : System (List ℕ)) (w : Placed) (texts : List (List ℕ)) (s : Stream) (count : ℕ) → IsNumbered S w texts → ShowsRun S count (placed_text (text_of texts) w s count)
 numbered_shows S w texts s count n =

@@ -52,7 +52,7 @@ module _ (w : Placed) (s : Stream) (count : ℕ) where
     rest =
         f.rest
         ∙ ap (λ es. f.taken ++ es)
-            (ap (λ m. placed_events now t m) (let one : count - n ≡ suc (count - (n + 1)) = omega (arith, lt) in one) ∙ some_next now t u (count - (n + 1)) e is)
+        (ap (λ m. placed_events now t m) (let one : count - n ≡ suc (count - (n + 1)) = omega (arith, lt) in one) ∙ some_next now t u (count - (n + 1)) e is)
         ∙ sym (append_assoc f.taken (e ∷ []) (placed_events (next_world now e) u (count - (n + 1))));
     world =
         ap (λ v. next_world v e) f.world
@@ -60,7 +60,7 @@ module _ (w : Placed) (s : Stream) (count : ℕ) where
     number = omega (arith, length-append f.taken (e ∷ []), f.number);
     text =
         subst (λ (x : List ℕ). Sent old new held left x) (sym (next_line f.taken n e f.number))
-            (sent_more old mid new held kept left (events_text 0 f.taken) (event_text (n + 1) e) f.text line);
+        (sent_more old mid new held kept left (events_text 0 f.taken) (event_text (n + 1) e) f.text line);
   }
 
   -- all events are taken
@@ -109,15 +109,15 @@ module _ (w : Placed) (s : Stream) (count : ℕ) where
   cut_short n now t u old mid new held kept left a b c e (Err y) x le lt f is err line =
       let rest = placed_events (next_world now e) u (count - (n + 1)) in
       let all : placed_events w s count ≡ f.taken ++ (e ∷ rest) =
-          f.rest ∙ ap (λ es. f.taken ++ es) (ap (λ m. placed_events now t m) (let one : count - n ≡ suc (count - (n + 1)) = omega (arith, lt) in one) ∙ some_next now t u (count - (n + 1)) e is) in
+      f.rest ∙ ap (λ es. f.taken ++ es) (ap (λ m. placed_events now t m) (let one : count - n ≡ suc (count - (n + 1)) = omega (arith, lt) in one) ∙ some_next now t u (count - (n + 1)) e is) in
       let text : events_text 0 (placed_events w s count) ≡ events_text 0 f.taken ++ (event_text (n + 1) e ++ events_text (n + 1) rest) =
-          ap (events_text 0) all ∙ lines_split f.taken n e rest f.number in
+      ap (events_text 0) all ∙ lines_split f.taken n e rest f.number in
       record {
         whole = tt;
         front =
             subst (λ (z : List ℕ). AppendsFront old new (held ++ z)) (sym text)
-                (front_after old mid new held kept (events_text 0 f.taken) (event_text (n + 1) e ++ events_text (n + 1) rest) f.text
-                    (front_longer mid new kept (event_text (n + 1) e) (events_text (n + 1) rest) line.front));
+            (front_after old mid new held kept (events_text 0 f.taken) (event_text (n + 1) e ++ events_text (n + 1) rest) f.text
+            (front_longer mid new kept (event_text (n + 1) e) (events_text (n + 1) rest) line.front));
         later = omega (arith, le, line.later);
         cause = rose_earlier a b c le line.cause;
       }

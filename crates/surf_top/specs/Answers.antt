@@ -8,7 +8,7 @@ use Rattle.surf_top.specs.declared.status.Refusal.{Refusal}
 use Rattle.surf_top.specs.declared.status.Status.{Status}
 use Rattle.surf_top.specs.declared.status.Status.TheVariants.{Done, Refused, Usage, ReadFault, WriteFault, NoMemory, TooLong}
 use Rattle.surf_top.specs.declared.job.Job.{Job}
-use Rattle.surf_top.specs.declared.job.Job.TheVariants.{Run}
+use Rattle.surf_top.specs.declared.job.Job.TheVariants.{Run, Format}
 use Rattle.surf_top.specs.Outputs.{output_of, Shows}
 use Rattle.surf_top.specs.Runs.{ShowsRun}
 
@@ -71,6 +71,7 @@ IsComplete (Some job) e status =
 -- where `run` is done, a text was written that shows a run of the manifest that was read
 abbrev pub PrintsRun : Option Job → Ends → Status → Type 0
 PrintsRun None e status = Unit {0}
+PrintsRun (Some Format) e status = Unit {0}
 PrintsRun (Some (Run seed count)) e status =
     status ≡ Done
     → IfSome e.left_before (λ input. IfOk (manifest_of input) (λ m. (text : List ℕ) × ShowsRun m.system count text × Appends e.written_before e.written_after text))

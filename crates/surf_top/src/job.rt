@@ -9,6 +9,8 @@ use surf_words::{Command, read_words};
 pub enum Job {
     /// At most `count` events of the simulation that `seed` gives.
     Run { seed: u64, count: u64 },
+    /// The canonical print of a manifest.
+    Format,
 }
 
 fn job_for(command: &Command<'_>) -> Option<Job>
@@ -19,7 +21,7 @@ fn job_for(command: &Command<'_>) -> Option<Job>
             seed: *seed,
             count: *count,
         }),
-        Command::Format => None,
+        Command::Format => Some(Job::Format),
         Command::Eval { .. } => None,
         Command::Circuit => None,
         Command::Set { .. } => None,

@@ -5,6 +5,7 @@
 //! source and sinks; `specs/Outputs.antt` and `specs/Answers.antt` hold the definitions.
 #![tactic(auto)]
 
+mod canonical;
 mod events;
 mod job;
 mod print;

@@ -8,17 +8,18 @@ ghost use Rattle.surf_pick.specs.Draws.{words_of};
 ghost use Rattle.surf_rules.specs.Names.{text_of};
 ghost use Rattle.surf_world.specs.Renamings.{AreBelow};
 ghost use Rattle.surf_top.specs.Prints.{placed_text};
-ghost use Rattle.surf_top.specs.Commands.{EndsJob, IsReady, answer_to};
+ghost use Rattle.surf_top.specs.Commands.{EndsJob, IsReady};
 ghost use Rattle.surf_top.specs.Answers.{IsQuiet};
 ghost use Rattle.surf_top.specs.declared.job.Job.TheVariants.{Run};
 
+use crate::Status;
 use crate::events::print_trace;
 use crate::print::print_end;
-use crate::{Refusal, Status};
+use crate::status::refused;
 use std::alloc::Global;
 use surf_base::{Outbox, Sink, WriteFault};
 use surf_lattice::{Grid, Lattice};
-use surf_manifest::{Manifest, ManifestError, read_manifest};
+use surf_manifest::{Manifest, read_manifest};
 use surf_pick::{Draw, Picker, TreePicker};
 use surf_rules::Names;
 use surf_sim::Sim;
@@ -60,11 +61,7 @@ fn print_run<L: Lattice, P: Picker, K: Sink>(
 }
 
 // The manifest's simulation and its names, or how the command ends without one.
-fn simulator(
-    alloc: Global,
-    manifest: Manifest,
-    seed: u64,
-) -> Option<(Sim<Grid, TreePicker>, Names)>
+fn simulator(alloc: Global, manifest: Manifest, seed: u64) -> Option<(Sim<Grid, TreePicker>, Names)>
     ensures { IfSome result (λ p. IsReady manifest.text seed p.0 p.1) }
 {
     match manifest.into_world(alloc) {
@@ -76,25 +73,9 @@ fn simulator(
     }
 }
 
-// The answer to a text that is no manifest.
-fn refused(fault: ManifestError) -> Status
-    ensures { result ≡ answer_to fault }
-{
-    match fault {
-        ManifestError::NoMemory => Status::NoMemory,
-        fault => Status::Refused(Refusal::Manifest(fault)),
-    }
-}
-
 /// Runs the manifest that a text spells, and prints the run. The text is given up before the
 /// simulator is built.
-pub fn run<K: Sink>(
-    alloc: Global,
-    input: Vec<u8>,
-    seed: u64,
-    count: u64,
-    out: &mut K,
-) -> Status
+pub fn run<K: Sink>(alloc: Global, input: Vec<u8>, seed: u64, count: u64, out: &mut K) -> Status
     requires { length input.items ≤ 268435456 }
     ensures ends { EndsJob (Run seed count) input.items (K.written out.old) (K.written out.new) (K.faults out.old) (K.faults out.new) result }
     ensures quiet { IsQuiet result → out.new ≡ out.old }

@@ -1,4 +1,5 @@
 ghost use Rattle.std.specs.Prelude.{◌≡◌};
+ghost use Rattle.surf_top.specs.Commands.{answer_to};
 
 use surf_manifest::ManifestError;
 
@@ -42,5 +43,15 @@ impl Status {
             Status::NoMemory => 6,
             Status::TooLong => 7,
         }
+    }
+}
+
+// The answer to a text that is no manifest.
+pub fn refused(fault: ManifestError) -> Status
+    ensures { result ≡ answer_to fault }
+{
+    match fault {
+        ManifestError::NoMemory => Status::NoMemory,
+        fault => Status::Refused(Refusal::Manifest(fault)),
     }
 }

@@ -4,10 +4,11 @@ ghost use Rattle.surf_top.specs.Commands.{EndsJob};
 ghost use Rattle.surf_top.specs.Notes.{Notes, note_of};
 ghost use Rattle.surf_top.specs.Outputs.{job_of};
 
-use crate::{Job, Status};
+use crate::canonical::format;
 use crate::job::read_job;
 use crate::reasons::note;
 use crate::run::run;
+use crate::{Job, Status};
 use std::alloc::Global;
 use surf_base::{ReadAllError, Sink, Source, read_all};
 
@@ -21,6 +22,7 @@ fn carry_out<K: Sink>(alloc: Global, job: Job, input: Vec<u8>, out: &mut K) -> S
 {
     match job {
         Job::Run { seed, count } => run(alloc, input, seed, count, out),
+        Job::Format => format(alloc, input, out),
     }
 }
 
@@ -32,10 +34,15 @@ fn answer<S: Source, K: Sink>(
     out: &mut K,
 ) -> Status
     ensures causes { HasCauses (job_of (map string_bytes words.now)) (record {
-        left_before = S.left source.old; left_after = S.left source.new;
-        reads_before = S.faults source.old; reads_after = S.faults source.new;
-        written_before = K.written out.old; written_after = K.written out.new;
-        writes_before = K.faults out.old; writes_after = K.faults out.new }) result }
+      left_before = S.left source.old;
+      left_after = S.left source.new;
+      reads_before = S.faults source.old;
+      reads_after = S.faults source.new;
+      written_before = K.written out.old;
+      written_after = K.written out.new;
+      writes_before = K.faults out.old;
+      writes_after = K.faults out.new;
+    }) result }
     ensures quiet { IsQuiet result → out.new ≡ out.old }
     ensures unread { result ≡ Status.Usage → source.new ≡ source.old }
 {
@@ -60,20 +67,35 @@ pub fn surf<S: Source, K: Sink, N: Sink>(
     notes: &mut N,
 ) -> Status
     ensures causes { HasCauses (job_of (map string_bytes words.now)) (record {
-        left_before = S.left source.old; left_after = S.left source.new;
-        reads_before = S.faults source.old; reads_after = S.faults source.new;
-        written_before = K.written out.old; written_after = K.written out.new;
-        writes_before = K.faults out.old; writes_after = K.faults out.new }) result }
+      left_before = S.left source.old;
+      left_after = S.left source.new;
+      reads_before = S.faults source.old;
+      reads_after = S.faults source.new;
+      written_before = K.written out.old;
+      written_after = K.written out.new;
+      writes_before = K.faults out.old;
+      writes_after = K.faults out.new;
+    }) result }
     ensures complete { IsComplete (job_of (map string_bytes words.now)) (record {
-        left_before = S.left source.old; left_after = S.left source.new;
-        reads_before = S.faults source.old; reads_after = S.faults source.new;
-        written_before = K.written out.old; written_after = K.written out.new;
-        writes_before = K.faults out.old; writes_after = K.faults out.new }) result }
+      left_before = S.left source.old;
+      left_after = S.left source.new;
+      reads_before = S.faults source.old;
+      reads_after = S.faults source.new;
+      written_before = K.written out.old;
+      written_after = K.written out.new;
+      writes_before = K.faults out.old;
+      writes_after = K.faults out.new;
+    }) result }
     ensures runs { PrintsRun (job_of (map string_bytes words.now)) (record {
-        left_before = S.left source.old; left_after = S.left source.new;
-        reads_before = S.faults source.old; reads_after = S.faults source.new;
-        written_before = K.written out.old; written_after = K.written out.new;
-        writes_before = K.faults out.old; writes_after = K.faults out.new }) result }
+      left_before = S.left source.old;
+      left_after = S.left source.new;
+      reads_before = S.faults source.old;
+      reads_after = S.faults source.new;
+      written_before = K.written out.old;
+      written_after = K.written out.new;
+      writes_before = K.faults out.old;
+      writes_after = K.faults out.new;
+    }) result }
     ensures quiet { IsQuiet result → out.new ≡ out.old }
     ensures unread { result ≡ Status.Usage → source.new ≡ source.old }
     ensures noted { Notes (N.written notes.old) (N.written notes.new) (N.faults notes.old) (N.faults notes.new) (note_of result) }

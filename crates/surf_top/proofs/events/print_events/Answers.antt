@@ -20,7 +20,7 @@ pub returns-in-Err-clause-emits : goal.returns-in-Err-clause-emits
 returns-in-Err-clause-emits g c =
     let lt : c.loop-n.n < c.args.count = search rules in
     cut_short c.args.sim.now.placed (words_of c.args.sim.now.generator) c.args.count c.loop-n.n c.loop-n.sim.placed (words_of c.loop-n.sim.generator) (words_of c.step.new.self.generator)
-        _ _ _ _ _ _ _ _ _ c.in-Some.event c.print_event.result c.in-Err.fault c.loop-n.invariant.later lt c.loop-n.invariant.so_far c.in-Some.ensures.step.0 c.in-Err.is c.print_event.ensures
+    _ _ _ _ _ _ _ _ _ c.in-Some.event c.print_event.result c.in-Err.fault c.loop-n.invariant.later lt c.loop-n.invariant.so_far c.in-Some.ensures.step.0 c.in-Err.is c.print_event.ensures
 
 pub loop-n-preserved : goal.loop-n-preserved
 loop-n-preserved g c =
@@ -28,9 +28,9 @@ loop-n-preserved g c =
     record {
       so_far =
           subst (λ (v : Placed). SoFar c.args.sim.now.placed (words_of c.args.sim.now.generator) c.args.count (c.loop-n.n + 1) v (words_of c.step.new.self.generator) (g.K.Sink.written c.args.out.now) (g.K.Sink.written c.print_event.new.out) c.args.outbox.now c.print_event.new.outbox)
-              (sym c.in-Some.ensures.step.1)
-              (went_on c.args.sim.now.placed (words_of c.args.sim.now.generator) c.args.count c.loop-n.n c.loop-n.sim.placed (words_of c.loop-n.sim.generator) (words_of c.step.new.self.generator)
-                  _ _ _ _ _ _ c.in-Some.event lt c.loop-n.invariant.so_far c.in-Some.ensures.step.0 c.in-Ok.ensures.whole);
+          (sym c.in-Some.ensures.step.1)
+          (went_on c.args.sim.now.placed (words_of c.args.sim.now.generator) c.args.count c.loop-n.n c.loop-n.sim.placed (words_of c.loop-n.sim.generator) (words_of c.step.new.self.generator)
+          _ _ _ _ _ _ c.in-Some.event lt c.loop-n.invariant.so_far c.in-Some.ensures.step.0 c.in-Ok.ensures.whole);
       later = omega (arith, c.loop-n.invariant.later, c.print_event.ensures.later);
     }
 

@@ -15,8 +15,8 @@ loop-x-preserved g c =
     let below : c.loop-x.x < c.width-width.result = search rules in
     let lt : c.loop-x.x < w = omega (arith, below, width) in
     let at : slice_get row c.loop-x.x ≡ Some c.text_at-text.result.now =
-        row_at w (c.args.y * w) c.loop-x.x names c.text_at-text.result.now lt len
-            (ap (λ k. slice_get names (c.args.y * k + c.loop-x.x)) (sym width) ∙ c.text_at-text.ensures) in
+    row_at w (c.args.y * w) c.loop-x.x names c.text_at-text.result.now lt len
+    (ap (λ k. slice_get names (c.args.y * k + c.loop-x.x)) (sym width) ∙ c.text_at-text.ensures) in
     record {
       width = width;
       first = ap (λ k. c.args.y * k) width;
@@ -34,10 +34,10 @@ returns-in-Err g c =
     let below : c.loop-x.x < c.width-width.result = search rules in
     let lt : c.loop-x.x < w = omega (arith, below, width) in
     let at : slice_get row c.loop-x.x ≡ Some c.text_at-text.result.now =
-        row_at w (c.args.y * w) c.loop-x.x names c.text_at-text.result.now lt len
-            (ap (λ k. slice_get names (c.args.y * k + c.loop-x.x)) (sym width) ∙ c.text_at-text.ensures) in
+    row_at w (c.args.y * w) c.loop-x.x names c.text_at-text.result.now lt len
+    (ap (λ k. slice_get names (c.args.y * k + c.loop-x.x)) (sym width) ∙ c.text_at-text.ensures) in
     cell_cut w row len c.loop-x.x c.text_at-text.result.now at c.behind_name.result (c.behind_name.ensures ∙ ap (λ k. behind_name k c.loop-x.x) width)
-        _ _ _ _ _ _ _ _ _ c.print_name.result c.in-Err.fault (omega (arith, lt)) c.loop-x.invariant.sent c.loop-x.invariant.later c.in-Err.is c.print_name.ensures
+    _ _ _ _ _ _ _ _ _ c.print_name.result c.in-Err.fault (omega (arith, lt)) c.loop-x.invariant.sent c.loop-x.invariant.later c.in-Err.is c.print_name.ensures
 
 pub returns : goal.returns
 returns g c =

@@ -11,7 +11,7 @@ loop-y-preserved g c =
     record {
       sent =
           sent_part _ _ _ _ _ _ (row_lines w c.loop-y.y names) (spaced (take w (drop (c.loop-y.y * w) names)) ++ 10 ∷ []) _
-              (row_more w c.loop-y.y names) c.loop-y.invariant.sent c.in-Ok.ensures.whole;
+          (row_more w c.loop-y.y names) c.loop-y.invariant.sent c.in-Ok.ensures.whole;
       later = omega (arith, c.loop-y.invariant.later, c.print_row.ensures.later);
     }
 
@@ -22,7 +22,7 @@ returns-in-Err g c =
     let names = map (text_of c.args.names.now) c.args.world.now.names in
     let lt : c.loop-y.y < h = search rules in
     cut_within _ _ _ _ _ _ _ _ _ (row_lines w c.loop-y.y names) (spaced (take w (drop (c.loop-y.y * w) names)) ++ 10 ∷ []) _ (row_lines w h names) c.print_row.result c.in-Err.fault
-        (row_split w h c.loop-y.y names lt) c.loop-y.invariant.sent c.loop-y.invariant.later c.in-Err.is c.print_row.ensures
+    (row_split w h c.loop-y.y names lt) c.loop-y.invariant.sent c.loop-y.invariant.later c.in-Err.is c.print_row.ensures
 
 pub returns : goal.returns
 returns g c =

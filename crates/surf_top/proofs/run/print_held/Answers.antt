@@ -14,15 +14,15 @@ pub print_end-requires : goal.print_end-requires
 print_end-requires g c =
     let w = c.args.sim.now.placed in
     subst (λ (v : Placed). All (λ k. k < length c.args.names.now) v.names) (sym (c.world.ensures ∙ c.in-Ok.ensures.world))
-        (left_below (length c.args.names.now) w.surface w.names (placed_events w (words_of c.args.sim.now.generator) c.args.count) c.requires).in_names
+    (left_below (length c.args.names.now) w.surface w.names (placed_events w (words_of c.args.sim.now.generator) c.args.count) c.requires).in_names
 
 pub returns-in-Ok : goal.returns-in-Ok
 returns-in-Ok g c =
     let w = c.args.sim.now.placed in
     let es = placed_events w (words_of c.args.sim.now.generator) c.args.count in
     after_whole _ _ _ _ _ _ _ _ _ (trace_text es) (end_text (text_of c.args.names.now) (left_world w es)) _ c.in-Ok.ensures.emits.whole c.print_trace.ensures.emits.later
-        (subst (λ (v : Placed). Emits {T = Unit {0}} {E = WriteFault} (g.K.Sink.written c.print_trace.new.out) (g.K.Sink.written c.print_end.new.out) c.print_trace.new.outbox c.print_end.new.outbox (g.K.Sink.faults c.print_trace.new.out) (g.K.Sink.faults c.print_end.new.out) (end_text (text_of c.args.names.now) v) c.print_end.result)
-            (c.world.ensures ∙ c.in-Ok.ensures.world) c.print_end.ensures)
+    (subst (λ (v : Placed). Emits {T = Unit {0}} {E = WriteFault} (g.K.Sink.written c.print_trace.new.out) (g.K.Sink.written c.print_end.new.out) c.print_trace.new.outbox c.print_end.new.outbox (g.K.Sink.faults c.print_trace.new.out) (g.K.Sink.faults c.print_end.new.out) (end_text (text_of c.args.names.now) v) c.print_end.result)
+    (c.world.ensures ∙ c.in-Ok.ensures.world) c.print_end.ensures)
 
 pub returns-in-Err : goal.returns-in-Err
 returns-in-Err g c =

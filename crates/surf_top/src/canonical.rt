@@ -1,0 +1,32 @@
+// The command `format`.
+ghost use Rattle.std.specs.Prelude.{◌≡◌, ◌≤◌, length};
+ghost use Rattle.surf_top.specs.Answers.{IsQuiet};
+ghost use Rattle.surf_top.specs.Commands.{EndsJob};
+ghost use Rattle.surf_top.specs.declared.job.Job.TheVariants.{Format};
+
+use crate::Status;
+use crate::status::refused;
+use std::alloc::Global;
+use surf_base::{Sink, write_all};
+use surf_manifest::read_manifest;
+use surf_manifest_print::print_manifest;
+
+/// Writes the canonical print of the manifest that a text spells, without a legend.
+pub fn format<K: Sink>(alloc: Global, input: Vec<u8>, out: &mut K) -> Status
+    requires { length input.items ≤ 268435456 }
+    ensures ends { EndsJob Format input.items (K.written out.old) (K.written out.new) (K.faults out.old) (K.faults out.new) result }
+    ensures quiet { IsQuiet result → out.new ≡ out.old }
+{
+    let manifest = match read_manifest(alloc, &input) {
+        Ok(manifest) => manifest,
+        Err(fault) => return refused(fault),
+    };
+    drop(input);
+    let Ok(text) = print_manifest(alloc, &manifest, None) else {
+        return Status::NoMemory;
+    };
+    match write_all(out, &text) {
+        Ok(()) => Status::Done,
+        Err(_) => Status::WriteFault,
+    }
+}
