@@ -10,6 +10,8 @@ mod faults;
 #[cfg(test)]
 mod formats;
 #[cfg(test)]
+mod limits;
+#[cfg(test)]
 mod pickers;
 #[cfg(test)]
 mod refusals;
