@@ -1,4 +1,4 @@
-use Rattle.std.proofs.Common.{rules, ◌≡◌, ◌∙◌, ◌++◌, List, ℕ, [], ap, None}
+use Rattle.std.proofs.Common.{rules, ◌≡◌, ◌∙◌, ◌++◌, [], ap, None}
 use Rattle.std.specs.Option.{option_copied}
 use Rattle.surf_manifest.specs.Bytes.{ended}
 use Rattle.surf_manifest.specs.Grammar.{manifest_of}
