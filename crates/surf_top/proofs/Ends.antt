@@ -12,12 +12,15 @@ use Rattle.surf_sim.specs.Simulations.{Simulation}
 use Rattle.surf_manifest.specs.Grammar.{ManifestText, manifest_of}
 use Rattle.surf_manifest.specs.declared.error.ManifestError.{ManifestError}
 use Rattle.surf_top.specs.declared.job.Job.{Job}
-use Rattle.surf_top.specs.declared.job.Job.TheVariants.{Run, Format}
+use Rattle.surf_top.specs.declared.job.Job.TheVariants.{Run, Format, Replay}
+use Rattle.surf_world.specs.declared.event.Event.{Event}
+use Rattle.surf_trace.proofs.Runs.{run_not_bad}
+use Rattle.surf_top.specs.declared.status.Refusal.{Refusal}
 use Rattle.surf_top.specs.declared.status.Status.{Status}
-use Rattle.surf_top.specs.declared.status.Status.TheVariants.{Done, Refused, Usage, ReadFault, WriteFault, NoMemory, TooLong}
+use Rattle.surf_top.specs.declared.status.Status.TheVariants.{Done, Refused, Usage, NotEnabled, ReadFault, WriteFault, NoMemory, TooLong}
 use Rattle.surf_top.specs.Answers.{Ends, HasCauses, IsComplete, PrintsRun, ReadWhole, WroteWhole, WroteFront, limit}
 use Rattle.surf_top.specs.Commands.{IsReady, EndsJob}
-use Rattle.surf_top.specs.Outputs.{output_of, printed_run, Shows, ShowsOf}
+use Rattle.surf_top.specs.Outputs.{IsText, HasText, IsRefused, FindsBad, IsBadAt, IsValid, printed_run, replay_input, Shows, ShowsOf}
 use Rattle.surf_top.specs.Prints.{placed_text}
 use Rattle.surf_top.specs.Runs.{run_text, ShowsRun}
 use Rattle.surf_top.proofs.Shown.{numbered_text, numbered_shows}
@@ -27,7 +30,7 @@ module _ (input : List ℕ) (m : ManifestText) (seed count : ℕ) (sim : Simulat
   abbrev text : List ℕ
   text = placed_text (text_of texts) sim.placed (words_of sim.generator) count
 
-  output_is : output_of (Run seed count) input ≡ Ok text
+  output_is : IsText (Run seed count) input text
   output_is =
       ap (printed_run seed count) read
       ∙ ap Ok (numbered_text m.system sim.placed texts (words_of (seeded seed)) count ready.numbered)
@@ -49,8 +52,9 @@ told (Some left) bytes P is le p = subst (λ (input : List ℕ). (length input �
 -- the input was read whole, and then the job ended
 pub read_then : (job : Job) (e : Ends) (bytes : List ℕ) (s : Status) → ReadsWhole e.left_before e.left_after bytes → length bytes ≤ limit → EndsJob job bytes e.written_before e.written_after e.writes_before e.writes_after s → HasCauses (Some job) e s
 read_then job e bytes Done read le ends = (read.end, told e.left_before bytes (λ input. WroteWhole job input e.written_before e.written_after) read.all le ends)
-read_then job e bytes (Refused r) read le ends = (read.end, told e.left_before bytes (λ input. output_of job input ≡ Err r) read.all le ends)
+read_then job e bytes (Refused r) read le ends = (read.end, told e.left_before bytes (λ input. IsRefused job input r) read.all le ends)
 read_then job e bytes Usage read le ends = absurd ends
+read_then job e bytes (NotEnabled k) read le ends = (read.end, told e.left_before bytes (λ input. FindsBad job input k) read.all le ends)
 read_then job e bytes ReadFault read le ends = absurd ends
 read_then job e bytes WriteFault read le ends = (ends.0, (read.end, told e.left_before bytes (λ input. WroteFront job input e.written_before e.written_after) read.all le ends.1))
 read_then job e bytes NoMemory read le ends = tt
@@ -69,14 +73,31 @@ each None P Q h p = tt
 each (Some x) P Q h p = h x p
 
 abbrev IsOver : Job → Status → List ℕ → Type 0
-IsOver job s input = length input ≤ limit → IsOk (output_of job input) → (s ≡ Done) ⊎ (s ≡ NoMemory)
+IsOver job s input = length input ≤ limit → HasText job input → (s ≡ Done) ⊎ (s ≡ NoMemory)
+
+-- an input that is refused has no text, and neither has one with an event that is not enabled
+refused_none : (job : Job) (input : List ℕ) (r : Refusal) → IsRefused job input r → HasText job input → ⊥
+refused_none (Run seed count) input r is ok = false≢true (sym (ap is_ok is) ∙ ok)
+refused_none Format input r is ok = false≢true (sym (ap is_ok is) ∙ ok)
+refused_none Replay input r is ok = subst (λ (p : Result (ManifestText × List Event) Refusal). IsValid p) is ok
+
+valid_not_bad : (p : Result (ManifestText × List Event) Refusal) (k : ℕ) → IsBadAt p k → IsValid p → ⊥
+valid_not_bad (Ok p) k bad run = run_not_bad (p.0).system.surface (p.0).system.start p.1 k run bad
+valid_not_bad (Err r) k bad run = run
+
+bad_none : (job : Job) (input : List ℕ) (k : ℕ) → FindsBad job input k → HasText job input → ⊥
+bad_none (Run seed count) input k bad ok = bad
+bad_none Format input k bad ok = bad
+bad_none Replay input k bad ok = valid_not_bad (replay_input input) k bad ok
 
 -- the causes leave only Done and want of memory where nothing else can have come
 pub complete : (o : Option Job) (e : Ends) (s : Status) → HasCauses o e s → IsComplete o e s
 complete None e s causes = tt
 complete (Some job) e Done causes = λ reads writes. anything e.left_before (IsOver job Done) (λ x le ok. inl refl)
 complete (Some job) e (Refused r) causes = λ reads writes.
-    each e.left_before (λ input. (length input ≤ limit) × (output_of job input ≡ Err r)) (IsOver job (Refused r)) (λ x p le ok. absurd (false≢true (sym (ap is_ok p.1) ∙ ok))) causes.1
+    each e.left_before (λ input. (length input ≤ limit) × (IsRefused job input r)) (IsOver job (Refused r)) (λ x p le ok. absurd (refused_none job x r p.1 ok)) causes.1
+complete (Some job) e (NotEnabled k) causes = λ reads writes.
+    each e.left_before (λ input. (length input ≤ limit) × FindsBad job input k) (IsOver job (NotEnabled k)) (λ x p le ok. absurd (bad_none job x k p.1 ok)) causes.1
 complete (Some job) e Usage causes = absurd causes
 complete (Some job) e ReadFault causes = λ reads writes. absurd (reads causes)
 complete (Some job) e WriteFault causes = λ reads writes. absurd (writes causes.0)
@@ -91,12 +112,14 @@ wrote_run count (Err f) text old new shows whole = absurd shows
 pub prints_run : (o : Option Job) (e : Ends) (s : Status) → HasCauses o e s → PrintsRun o e s
 prints_run None e s causes = tt
 prints_run (Some Format) e s causes = tt
+prints_run (Some Replay) e s causes = tt
 prints_run (Some (Run seed count)) e Done causes = λ done.
     each e.left_before (λ input. (length input ≤ limit) × WroteWhole (Run seed count) input e.written_before e.written_after)
     (λ input. IfOk (manifest_of input) (λ m. (text : List ℕ) × ShowsRun m.system count text × Appends e.written_before e.written_after text))
     (λ input p. wrote_run count (manifest_of input) (p.1).text e.written_before e.written_after (p.1).shows (p.1).whole) causes.1
 prints_run (Some (Run seed count)) e (Refused r) causes = λ done. absurd cc
 prints_run (Some (Run seed count)) e Usage causes = λ done. absurd cc
+prints_run (Some (Run seed count)) e (NotEnabled k) causes = λ done. absurd cc
 prints_run (Some (Run seed count)) e ReadFault causes = λ done. absurd cc
 prints_run (Some (Run seed count)) e WriteFault causes = λ done. absurd cc
 prints_run (Some (Run seed count)) e NoMemory causes = λ done. absurd cc

@@ -4,3 +4,4 @@ pub mod Rows
 pub mod Words
 pub mod Shown
 pub mod Ends
+pub mod Replayed

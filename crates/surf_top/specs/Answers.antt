@@ -6,10 +6,10 @@ use Rattle.surf_base.specs.Known.{AppendsFront}
 use Rattle.surf_manifest.specs.Grammar.{manifest_of}
 use Rattle.surf_top.specs.declared.status.Refusal.{Refusal}
 use Rattle.surf_top.specs.declared.status.Status.{Status}
-use Rattle.surf_top.specs.declared.status.Status.TheVariants.{Done, Refused, Usage, ReadFault, WriteFault, NoMemory, TooLong}
+use Rattle.surf_top.specs.declared.status.Status.TheVariants.{Done, Refused, Usage, NotEnabled, ReadFault, WriteFault, NoMemory, TooLong}
 use Rattle.surf_top.specs.declared.job.Job.{Job}
-use Rattle.surf_top.specs.declared.job.Job.TheVariants.{Run, Format}
-use Rattle.surf_top.specs.Outputs.{output_of, Shows}
+use Rattle.surf_top.specs.declared.job.Job.TheVariants.{Run, Format, Replay}
+use Rattle.surf_top.specs.Outputs.{IsText, HasText, IsRefused, FindsBad, Shows}
 use Rattle.surf_top.specs.Runs.{ShowsRun}
 
 -- the most bytes that an input may have
@@ -34,14 +34,14 @@ ReadWhole e P = IsAtEnd e.left_after × IfSome e.left_before (λ input. (length 
 -- the output of the job for the input was written, and nothing else
 pub record WroteWhole (job : Job) (input : List ℕ) (old new : Option (List ℕ)) : Type 0 where
   pub text : List ℕ
-  pub is : output_of job input ≡ Ok text
+  pub is : IsText job input text
   pub shows : Shows job input text
   pub whole : Appends old new text
 
 -- a front of the output was written
 pub record WroteFront (job : Job) (input : List ℕ) (old new : Option (List ℕ)) : Type 0 where
   pub text : List ℕ
-  pub is : output_of job input ≡ Ok text
+  pub is : IsText job input text
   pub front : AppendsFront old new text
 
 -- when each answer comes; nothing is said of want of memory
@@ -51,7 +51,9 @@ HasCauses (Some job) e Usage = ⊥
 HasCauses None e Done = ⊥
 HasCauses (Some job) e Done = ReadWhole e (λ input. WroteWhole job input e.written_before e.written_after)
 HasCauses None e (Refused r) = ⊥
-HasCauses (Some job) e (Refused r) = ReadWhole e (λ input. output_of job input ≡ Err r)
+HasCauses (Some job) e (Refused r) = ReadWhole e (λ input. IsRefused job input r)
+HasCauses None e (NotEnabled k) = ⊥
+HasCauses (Some job) e (NotEnabled k) = ReadWhole e (λ input. FindsBad job input k)
 HasCauses None e ReadFault = ⊥
 HasCauses (Some job) e ReadFault = Rose e.reads_before e.reads_after
 HasCauses None e TooLong = ⊥
@@ -66,12 +68,13 @@ abbrev pub IsComplete : Option Job → Ends → Status → Type 0
 IsComplete None e status = Unit {0}
 IsComplete (Some job) e status =
     (Rose e.reads_before e.reads_after → ⊥) → (Rose e.writes_before e.writes_after → ⊥)
-    → IfSome e.left_before (λ input. length input ≤ limit → IsOk (output_of job input) → (status ≡ Done) ⊎ (status ≡ NoMemory))
+    → IfSome e.left_before (λ input. length input ≤ limit → HasText job input → (status ≡ Done) ⊎ (status ≡ NoMemory))
 
 -- where `run` is done, a text was written that shows a run of the manifest that was read
 abbrev pub PrintsRun : Option Job → Ends → Status → Type 0
 PrintsRun None e status = Unit {0}
 PrintsRun (Some Format) e status = Unit {0}
+PrintsRun (Some Replay) e status = Unit {0}
 PrintsRun (Some (Run seed count)) e status =
     status ≡ Done
     → IfSome e.left_before (λ input. IfOk (manifest_of input) (λ m. (text : List ℕ) × ShowsRun m.system count text × Appends e.written_before e.written_after text))
@@ -82,6 +85,7 @@ IsQuiet Done = ⊥
 IsQuiet WriteFault = ⊥
 IsQuiet (Refused r) = Unit {0}
 IsQuiet Usage = Unit {0}
+IsQuiet (NotEnabled k) = Unit {0}
 IsQuiet ReadFault = Unit {0}
 IsQuiet NoMemory = Unit {0}
 IsQuiet TooLong = Unit {0}

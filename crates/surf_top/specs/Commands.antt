@@ -6,12 +6,14 @@ use Rattle.surf_sim.specs.Simulations.{Simulation}
 use Rattle.surf_manifest.specs.Grammar.{ManifestText}
 use Rattle.surf_manifest.specs.Numbered.{IsNumbered}
 use Rattle.surf_top.specs.declared.status.Status.{Status}
-use Rattle.surf_top.specs.declared.status.Status.TheVariants.{Done, Refused, Usage, ReadFault, WriteFault, NoMemory, TooLong}
+use Rattle.surf_top.specs.declared.status.Status.TheVariants.{Done, Refused, Usage, NotEnabled, ReadFault, WriteFault, NoMemory, TooLong}
 use Rattle.surf_manifest.specs.declared.error.ManifestError.{ManifestError}
 use Rattle.surf_manifest.specs.declared.error.ManifestError.TheVariants as faults
+use Rattle.surf_trace.specs.declared.error.TraceError.{TraceError}
+use Rattle.surf_trace.specs.declared.error.TraceError.TheVariants as traces
 use Rattle.surf_top.specs.declared.job.Job.{Job}
-use Rattle.surf_top.specs.declared.status.Refusal.TheVariants.{Manifest}
-use Rattle.surf_top.specs.Outputs.{output_of}
+use Rattle.surf_top.specs.declared.status.Refusal.TheVariants.{Manifest, Trace}
+use Rattle.surf_top.specs.Outputs.{IsRefused, FindsBad}
 use Rattle.surf_top.specs.Answers.{WroteWhole, WroteFront}
 
 -- a simulator of the manifest that no event was taken of, and the texts of its numbers
@@ -22,7 +24,8 @@ pub record IsReady (m : ManifestText) (seed : ℕ) (sim : Simulation) (texts : L
 -- which answers a job may give for an input that was read, and what it then wrote
 abbrev pub EndsJob : Job → List ℕ → Option (List ℕ) → Option (List ℕ) → ℕ → ℕ → Status → Type 0
 EndsJob job input old new before now Done = WroteWhole job input old new
-EndsJob job input old new before now (Refused r) = output_of job input ≡ Err r
+EndsJob job input old new before now (Refused r) = IsRefused job input r
+EndsJob job input old new before now (NotEnabled k) = FindsBad job input k
 EndsJob job input old new before now WriteFault = Rose before now × WroteFront job input old new
 EndsJob job input old new before now NoMemory = Unit {0}
 EndsJob job input old new before now Usage = ⊥
@@ -45,3 +48,9 @@ answer_to (faults.TooManyRules n) = Refused (Manifest (faults.TooManyRules n))
 answer_to (faults.TooManySites n) = Refused (Manifest (faults.TooManySites n))
 answer_to faults.WrapSize = Refused (Manifest faults.WrapSize)
 answer_to faults.NoMemory = NoMemory
+
+abbrev pub answer_to_trace : TraceError → Status
+answer_to_trace traces.NoTrace = Refused (Trace traces.NoTrace)
+answer_to_trace (traces.BadTrace n) = Refused (Trace (traces.BadTrace n))
+answer_to_trace (traces.Unclosed n) = Refused (Trace (traces.Unclosed n))
+answer_to_trace traces.NoMemory = NoMemory

@@ -8,16 +8,19 @@ use Rattle.surf_manifest.specs.declared.error.ManifestError.{ManifestError}
 use Rattle.surf_manifest.specs.declared.error.ManifestError.TheVariants as faults
 use Rattle.surf_manifest.specs.declared.error.Block.{Block}
 use Rattle.surf_manifest.specs.declared.error.Block.TheVariants as blocks
+use Rattle.surf_trace.specs.declared.error.TraceError.{TraceError}
+use Rattle.surf_trace.specs.declared.error.TraceError.TheVariants as traces
 use Rattle.surf_top.specs.declared.status.Refusal.{Refusal}
-use Rattle.surf_top.specs.declared.status.Refusal.TheVariants.{Manifest}
+use Rattle.surf_top.specs.declared.status.Refusal.TheVariants.{Manifest, Trace}
 use Rattle.surf_top.specs.declared.status.Status.{Status}
-use Rattle.surf_top.specs.declared.status.Status.TheVariants.{Done, Refused, Usage, ReadFault, WriteFault, NoMemory, TooLong}
+use Rattle.surf_top.specs.declared.status.Status.TheVariants.{Done, Refused, Usage, NotEnabled, ReadFault, WriteFault, NoMemory, TooLong}
 
 -- the exit status
 abbrev pub code_of : Status → ℕ
 code_of Done = 0
 code_of (Refused r) = 1
 code_of Usage = 2
+code_of (NotEnabled k) = 3
 code_of ReadFault = 4
 code_of WriteFault = 5
 code_of NoMemory = 6
@@ -53,14 +56,23 @@ fault_words (faults.TooManySites n) = numbered (codes "too-many-sites") (Some n)
 fault_words faults.WrapSize = numbered (codes "wrap-size") None
 fault_words faults.NoMemory = numbered (codes "no-memory") None
 
+-- the words of a trace's fault; want of memory is never a refusal
+abbrev pub trace_words : TraceError → List ℕ
+trace_words traces.NoTrace = numbered (codes "no-trace") None
+trace_words (traces.BadTrace n) = numbered (codes "bad-trace") (Some n)
+trace_words (traces.Unclosed n) = numbered (codes "unclosed") (Some n)
+trace_words traces.NoMemory = numbered (codes "no-memory") None
+
 abbrev pub refusal_words : Refusal → List ℕ
 refusal_words (Manifest e) = fault_words e
+refusal_words (Trace t) = trace_words t
 
 -- the line of an answer; Done has none
 abbrev pub note_of : Status → List ℕ
 note_of Done = []
 note_of (Refused r) = codes "surf: refused " ++ (refusal_words r ++ 10 ∷ [])
 note_of Usage = codes "surf: usage\n"
+note_of (NotEnabled k) = codes "surf: event " ++ (decimal k ++ codes " is not enabled\n")
 note_of ReadFault = codes "surf: read fault\n"
 note_of WriteFault = codes "surf: write fault\n"
 note_of NoMemory = codes "surf: no memory\n"

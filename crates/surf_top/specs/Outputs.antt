@@ -1,15 +1,23 @@
 -- What a command writes for an input, or why it refuses it. A job is a command that is carried out.
-use Rattle.std.specs.Prelude.{ℕ, List, Option, Some, None, Result, Ok, Err}
+use Rattle.std.specs.Prelude.{ℕ, ◌≡◌, ◌++◌, List, [], length, map, codes, Option, Some, None, Result, Ok, Err, IsOk}
+use Rattle.std.specs.Fmt.{decimal}
 use Rattle.surf_words.specs.Words.{Spoken, words_of}
 use Rattle.surf_words.specs.Words as words
-use Rattle.surf_manifest.specs.Grammar.{ManifestText, manifest_of}
+use Rattle.surf_manifest.specs.Bytes.{lines_of}
+use Rattle.surf_manifest.specs.Line.{line_of}
+use Rattle.surf_manifest.specs.Grammar.{ManifestText, manifest_of, read_from}
 use Rattle.surf_manifest.specs.declared.error.ManifestError.{ManifestError}
 use Rattle.surf_manifest_print.specs.Prints.{print_of}
 use Rattle.surf_top.specs.declared.job.Job.{Job}
-use Rattle.surf_top.specs.declared.job.Job.TheVariants.{Run, Format}
+use Rattle.surf_top.specs.declared.job.Job.TheVariants.{Run, Format, Replay}
 use Rattle.surf_top.specs.declared.status.Refusal.{Refusal}
-use Rattle.surf_top.specs.declared.status.Refusal.TheVariants.{Manifest}
-use Rattle.surf_world.specs.Systems.{System}
+use Rattle.surf_top.specs.declared.status.Refusal.TheVariants.{Manifest, Trace}
+use Rattle.surf_world.specs.declared.event.Event.{Event}
+use Rattle.surf_world.specs.Systems.{System, IsRun}
+use Rattle.surf_trace.specs.Replays.{FirstBad}
+use Rattle.surf_trace.specs.Splits.{before_trace}
+use Rattle.surf_trace.specs.TraceTexts.{trace_of}
+use Rattle.surf_trace.specs.declared.error.TraceError.{TraceError}
 use Rattle.surf_top.specs.Runs.{run_text, ShowsRun}
 
 abbrev pub job_for : Option Spoken → Option Job
@@ -21,7 +29,7 @@ job_for (Some words.Circuit) = None
 job_for (Some (words.Set bits)) = None
 job_for (Some (words.Automaton margin)) = None
 job_for (Some (words.Step times)) = None
-job_for (Some words.Replay) = None
+job_for (Some words.Replay) = Some Replay
 job_for (Some words.Outputs) = None
 job_for (Some (words.Observe k)) = None
 job_for (Some (words.DemoAdder n)) = None
@@ -39,10 +47,60 @@ abbrev pub printed_manifest : Result ManifestText ManifestError → Result (List
 printed_manifest (Ok m) = Ok (print_of m None)
 printed_manifest (Err e) = Err (Manifest e)
 
--- the text that a job writes for an input, or its refusal
-abbrev pub output_of : Job → List ℕ → Result (List ℕ) Refusal
-output_of (Run seed count) input = printed_run seed count (manifest_of input)
-output_of Format input = printed_manifest (manifest_of input)
+-- the manifest that stands before an input's trace, or its fault
+abbrev pub manifest_before : List ℕ → Result ManifestText ManifestError
+manifest_before input = read_from [] (map line_of (before_trace (lines_of input)))
+
+abbrev pub replay_of : Result ManifestText ManifestError → Result (List Event) TraceError → Result (ManifestText × List Event) Refusal
+replay_of (Err e) t = Err (Manifest e)
+replay_of (Ok m) (Err t) = Err (Trace t)
+replay_of (Ok m) (Ok es) = Ok (m, es)
+
+-- the manifest of an input and the events of its trace, or a fault: the manifest's goes first
+abbrev pub replay_input : List ℕ → Result (ManifestText × List Event) Refusal
+replay_input input = replay_of (manifest_before input) (trace_of input)
+
+-- the line of a trace that is a run
+abbrev pub valid_text : List Event → List ℕ
+valid_text es = codes "valid " ++ (decimal (length es) ++ codes "\n")
+
+-- the trace is a run of its manifest
+abbrev pub IsValid : Result (ManifestText × List Event) Refusal → Type 0
+IsValid (Ok p) = IsRun (p.0).system.surface (p.0).system.start p.1
+IsValid (Err r) = ⊥
+
+abbrev pub IsValidText : Result (ManifestText × List Event) Refusal → List ℕ → Type 0
+IsValidText (Ok p) text = IsRun (p.0).system.surface (p.0).system.start p.1 × (text ≡ valid_text p.1)
+IsValidText (Err r) text = ⊥
+
+-- the k-th event of the trace is the first that is not enabled at its turn
+abbrev pub IsBadAt : Result (ManifestText × List Event) Refusal → ℕ → Type 0
+IsBadAt (Ok p) k = FirstBad (p.0).system.surface (p.0).system.start p.1 k
+IsBadAt (Err r) k = ⊥
+
+-- a job writes this text for an input
+abbrev pub IsText : Job → List ℕ → List ℕ → Type 0
+IsText (Run seed count) input text = printed_run seed count (manifest_of input) ≡ Ok text
+IsText Format input text = printed_manifest (manifest_of input) ≡ Ok text
+IsText Replay input text = IsValidText (replay_input input) text
+
+-- a job writes some text for an input
+abbrev pub HasText : Job → List ℕ → Type 0
+HasText (Run seed count) input = IsOk (printed_run seed count (manifest_of input))
+HasText Format input = IsOk (printed_manifest (manifest_of input))
+HasText Replay input = IsValid (replay_input input)
+
+-- a job refuses an input
+abbrev pub IsRefused : Job → List ℕ → Refusal → Type 0
+IsRefused (Run seed count) input r = printed_run seed count (manifest_of input) ≡ Err r
+IsRefused Format input r = printed_manifest (manifest_of input) ≡ Err r
+IsRefused Replay input r = replay_input input ≡ Err r
+
+-- a job finds an event that is not enabled at its turn
+abbrev pub FindsBad : Job → List ℕ → ℕ → Type 0
+FindsBad (Run seed count) input k = ⊥
+FindsBad Format input k = ⊥
+FindsBad Replay input k = IsBadAt (replay_input input) k
 
 -- what a text says of the manifest that was read
 abbrev pub ShowsOf : ℕ → Result ManifestText ManifestError → List ℕ → Type 0
@@ -53,3 +111,4 @@ ShowsOf count (Err e) text = ⊥
 abbrev pub Shows : Job → List ℕ → List ℕ → Type 0
 Shows (Run seed count) input text = ShowsOf count (manifest_of input) text
 Shows Format input text = Unit {0}
+Shows Replay input text = Unit {0}

@@ -11,6 +11,8 @@ pub enum Job {
     Run { seed: u64, count: u64 },
     /// The canonical print of a manifest.
     Format,
+    /// Whether a trace is a run of the manifest before it.
+    Replay,
 }
 
 fn job_for(command: &Command<'_>) -> Option<Job>
@@ -27,7 +29,7 @@ fn job_for(command: &Command<'_>) -> Option<Job>
         Command::Set { .. } => None,
         Command::Automaton { .. } => None,
         Command::Step { .. } => None,
-        Command::Replay => None,
+        Command::Replay => Some(Job::Replay),
         Command::Outputs => None,
         Command::Observe { .. } => None,
         Command::DemoAdder { .. } => None,

@@ -10,6 +10,7 @@ mod events;
 mod job;
 mod print;
 mod reasons;
+mod replaying;
 mod run;
 mod status;
 mod top;

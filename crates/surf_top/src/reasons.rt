@@ -2,11 +2,12 @@
 ghost use Rattle.std.specs.Prelude.{◌≡◌, ◌++◌, ◌∷◌, [], codes, Some, None, OnOk};
 ghost use Rattle.std.specs.Fmt.{decimal};
 ghost use Rattle.surf_base.specs.Emits.{Emits};
-ghost use Rattle.surf_top.specs.Notes.{note_of, Notes, fault_words, refusal_words, block_words, numbered, number_text};
+ghost use Rattle.surf_top.specs.Notes.{note_of, Notes, fault_words, trace_words, refusal_words, block_words, numbered, number_text};
 
 use crate::{Refusal, Status};
 use surf_base::{Outbox, Sink, WriteFault, put_decimal, write_all};
 use surf_manifest::{Block, ManifestError};
+use surf_trace::TraceError;
 
 // The words of a fault, and its number.
 fn words_of_fault(fault: &ManifestError) -> (&'static [u8], Option<u64>)
@@ -36,6 +37,28 @@ fn words_of_block(block: Block) -> &'static [u8]
     match block {
         Block::Rules => b"missing-block rules",
         Block::State => b"missing-block state",
+    }
+}
+
+// The words of a trace's fault, and its line.
+fn words_of_trace(fault: &TraceError) -> (&'static [u8], Option<u64>)
+    ensures { trace_words fault.now ≡ numbered result.0.now result.1 }
+{
+    match fault {
+        TraceError::NoTrace => (b"no-trace", None),
+        TraceError::BadTrace(line) => (b"bad-trace", Some(*line)),
+        TraceError::Unclosed(line) => (b"unclosed", Some(*line)),
+        TraceError::NoMemory => (b"no-memory", None),
+    }
+}
+
+// The words of a refusal, and its number.
+fn words_of_refusal(refusal: &Refusal) -> (&'static [u8], Option<u64>)
+    ensures { refusal_words refusal.now ≡ numbered result.0.now result.1 }
+{
+    match refusal {
+        Refusal::Manifest(fault) => words_of_fault(fault),
+        Refusal::Trace(fault) => words_of_trace(fault),
     }
 }
 
@@ -91,12 +114,8 @@ fn put_reason<N: Sink>(
 ) -> Result<(), WriteFault>
     ensures { Emits (N.written notes.old) (N.written notes.new) outbox.old outbox.new (N.faults notes.old) (N.faults notes.new) (refusal_words refusal.now) result }
 {
-    match refusal {
-        Refusal::Manifest(fault) => {
-            let (words, number) = words_of_fault(fault);
-            put_words(outbox, notes, words, number)
-        }
-    }
+    let (words, number) = words_of_refusal(refusal);
+    put_words(outbox, notes, words, number)
 }
 
 // The last text of a line, and all that is held.
@@ -151,6 +170,34 @@ fn send<N: Sink>(notes: &mut N, line: &[u8])
     let _ = write_all(notes, line);
 }
 
+// The end of the line of an event that is not enabled, from its number on.
+fn put_event_end<N: Sink>(outbox: &mut Outbox, notes: &mut N, k: u64) -> Result<(), WriteFault>
+    ensures emits { Emits (N.written notes.old) (N.written notes.new) outbox.old outbox.new (N.faults notes.old) (N.faults notes.new) (decimal k ++ codes " is not enabled\n") result }
+    ensures empty { OnOk result (outbox.new ≡ []) }
+{
+    match put_digits(outbox, notes, k) {
+        Ok(()) => put_last(outbox, notes, b" is not enabled\n"),
+        Err(fault) => Err(fault),
+    }
+}
+
+fn put_event<N: Sink>(outbox: &mut Outbox, notes: &mut N, k: u64) -> Result<(), WriteFault>
+    ensures emits { Emits (N.written notes.old) (N.written notes.new) outbox.old outbox.new (N.faults notes.old) (N.faults notes.new) (codes "surf: event " ++ (decimal k ++ codes " is not enabled\n")) result }
+    ensures empty { OnOk result (outbox.new ≡ []) }
+{
+    match outbox.put(notes, b"surf: event ") {
+        Ok(()) => put_event_end(outbox, notes, k),
+        Err(fault) => Err(fault),
+    }
+}
+
+fn send_event<N: Sink>(notes: &mut N, k: u64)
+    ensures { Notes (N.written notes.old) (N.written notes.new) (N.faults notes.old) (N.faults notes.new) (codes "surf: event " ++ (decimal k ++ codes " is not enabled\n")) }
+{
+    let mut outbox = Outbox::new();
+    let _ = put_event(&mut outbox, notes, k);
+}
+
 /// Writes the line of an answer, as far as the notes take it.
 pub fn note<N: Sink>(status: &Status, notes: &mut N)
     ensures { Notes (N.written notes.old) (N.written notes.new) (N.faults notes.old) (N.faults notes.new) (note_of status.now) }
@@ -159,6 +206,7 @@ pub fn note<N: Sink>(status: &Status, notes: &mut N)
         Status::Done => {}
         Status::Refused(refusal) => send_refusal(notes, refusal),
         Status::Usage => send(notes, b"surf: usage\n"),
+        Status::NotEnabled(k) => send_event(notes, *k),
         Status::ReadFault => send(notes, b"surf: read fault\n"),
         Status::WriteFault => send(notes, b"surf: write fault\n"),
         Status::NoMemory => send(notes, b"surf: no memory\n"),

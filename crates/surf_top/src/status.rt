@@ -1,12 +1,14 @@
 ghost use Rattle.std.specs.Prelude.{◌≡◌};
-ghost use Rattle.surf_top.specs.Commands.{answer_to};
+ghost use Rattle.surf_top.specs.Commands.{answer_to, answer_to_trace};
 
 use surf_manifest::ManifestError;
+use surf_trace::TraceError;
 
 /// Why an input is refused. It never holds want of memory.
 #[derive(Debug, Drop)]
 pub enum Refusal {
     Manifest(ManifestError),
+    Trace(TraceError),
 }
 
 /// How a call of the program ended.
@@ -18,6 +20,8 @@ pub enum Status {
     Refused(Refusal),
     /// The words are no command. Nothing was read.
     Usage,
+    /// The event of this number, from 1, is not enabled at its turn.
+    NotEnabled(u64),
     ReadFault,
     /// A front of the output was written.
     WriteFault,
@@ -29,8 +33,7 @@ pub enum Status {
 impl Status {
     ghost use Rattle.surf_top.specs.Notes.{code_of};
 
-    /// The exit status: 0 for done, 1 refused, 2 usage, 4 a fault of reading, 5 of
-    /// writing, 6 no memory, 7 too long.
+    /// The exit status: 0 to 7 in the order of the variants.
     pub fn code(&self) -> u8
         ensures { result ≡ code_of self.now }
     {
@@ -38,6 +41,7 @@ impl Status {
             Status::Done => 0,
             Status::Refused(_) => 1,
             Status::Usage => 2,
+            Status::NotEnabled(_) => 3,
             Status::ReadFault => 4,
             Status::WriteFault => 5,
             Status::NoMemory => 6,
@@ -53,5 +57,15 @@ pub fn refused(fault: ManifestError) -> Status
     match fault {
         ManifestError::NoMemory => Status::NoMemory,
         fault => Status::Refused(Refusal::Manifest(fault)),
+    }
+}
+
+// The answer to a text that has no trace.
+pub fn refused_trace(fault: TraceError) -> Status
+    ensures { result ≡ answer_to_trace fault }
+{
+    match fault {
+        TraceError::NoMemory => Status::NoMemory,
+        fault => Status::Refused(Refusal::Trace(fault)),
     }
 }

@@ -7,6 +7,7 @@ ghost use Rattle.surf_top.specs.Outputs.{job_of};
 use crate::canonical::format;
 use crate::job::read_job;
 use crate::reasons::note;
+use crate::replaying::check_trace;
 use crate::run::run;
 use crate::{Job, Status};
 use std::alloc::Global;
@@ -23,6 +24,7 @@ fn carry_out<K: Sink>(alloc: Global, job: Job, input: Vec<u8>, out: &mut K) -> S
     match job {
         Job::Run { seed, count } => run(alloc, input, seed, count, out),
         Job::Format => format(alloc, input, out),
+        Job::Replay => check_trace(alloc, input, out),
     }
 }
 

@@ -1,1 +1,4 @@
 pub mod Traces
+pub mod Replays
+pub mod TraceTexts
+pub mod Splits

@@ -20,3 +20,6 @@ returns-in-TooLong g c = subst (λ (s : Status). Notes (g.N.Sink.written c.args.
 
 pub returns-in-Refused : goal.returns-in-Refused
 returns-in-Refused g c = subst (λ (s : Status). Notes (g.N.Sink.written c.args.notes.now) (g.N.Sink.written c.send_refusal.new.notes) (g.N.Sink.faults c.args.notes.now) (g.N.Sink.faults c.send_refusal.new.notes) (note_of s)) (sym c.in-Refused.is) c.send_refusal.ensures
+
+pub returns-in-NotEnabled : goal.returns-in-NotEnabled
+returns-in-NotEnabled g c = subst (λ (s : Status). Notes (g.N.Sink.written c.args.notes.now) (g.N.Sink.written c.send_event.new.notes) (g.N.Sink.faults c.args.notes.now) (g.N.Sink.faults c.send_event.new.notes) (note_of s)) (sym c.in-NotEnabled.is) c.send_event.ensures

@@ -1,4 +1,4 @@
-use Rattle.std.proofs.Common.{rules, arith, ◌≤◌, ◌≡◌, length, ap, take}
+use Rattle.std.proofs.Common.{rules, arith, ◌≤◌, length, ap}
 use Rattle.std.specs.Fmt.{decimal}
 use Rattle.std.proofs.lemmas.Fmt.{length-decimal-le}
 use Rattle.surf_trace.proofs.line.put_short.Goals as goal

@@ -1,0 +1,6 @@
+mod Gathering
+mod Rules
+mod Ranges
+mod LinesLemmas
+mod Cells
+mod Phases

@@ -1,0 +1,6 @@
+pub mod Lines
+pub mod Locals
+pub mod Counts
+pub mod Tables
+pub mod Sync
+pub mod Laws

@@ -1,0 +1,5 @@
+pub mod Runs
+pub mod SplitLines
+pub mod Words
+pub mod Decimals
+pub mod ReadBack
