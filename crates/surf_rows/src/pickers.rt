@@ -40,7 +40,8 @@ fn rows(alloc: Global, number: usize) -> Result<String, Fail>
     Ok(text)
 }
 
-fn events<P: Picker + Drop>(alloc: Global, text: &[u8], seed: u64) -> Result<Vec<Event>, Fail> {
+/// The first 30 events of a manifest's run.
+pub fn events<P: Picker + Drop>(alloc: Global, text: &[u8], seed: u64) -> Result<Vec<Event>, Fail> {
     if text.len() > 4096 {
         Err::<(), &str>("a long text")?;
     }
