@@ -99,8 +99,14 @@ fn changed(event: Event, field: usize, value: u32) -> Event {
         0 => rule = value,
         1 => first.x = value,
         2 => first.y = value,
-        3 => second = second.map(|site| Site { x: value, y: site.y }),
-        _ => second = second.map(|site| Site { x: site.x, y: value }),
+        3 => second = second.map(|site| Site {
+            x: value,
+            y: site.y,
+        }),
+        _ => second = second.map(|site| Site {
+            x: site.x,
+            y: value,
+        }),
     }
     Event {
         rule,
