@@ -1,6 +1,5 @@
 mod Gathering
 mod Rules
 mod Ranges
-mod LinesLemmas
 mod Cells
 mod Phases

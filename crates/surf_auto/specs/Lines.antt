@@ -1,24 +1,7 @@
--- Lines of a text, their tokens, and which text is a table.
-use Rattle.std.specs.Prelude.{ℕ, Bool, true, false, ◌||◌, ◌==◌, List, [], ◌∷◌, filter, Option, Some, None, if◌then◌else◌, codes}
-use Rattle.std.specs.List.{slice_split, onto_first}
+-- Which text is a table.
+use Rattle.std.specs.Prelude.{ℕ, Bool, true, false, ◌==◌, List, [], ◌∷◌, Option, Some, None, if◌then◌else◌, codes}
 use Rattle.std.specs.Str.{bytes_eq}
-
--- the lines end at a line feed or at the end of the text, and none follows a last line feed
-abbrev pub lines_of : List ℕ → List (List ℕ)
-lines_of [] = []
-lines_of (b ∷ bs) = if b == 10 then [] ∷ lines_of bs else onto_first b (lines_of bs)
-
--- a space, a tab or a carriage return
-abbrev pub is_blank : ℕ → Bool
-is_blank b = (b == 32) || ((b == 9) || (b == 13))
-
-abbrev pub is_filled : List ℕ → Bool
-is_filled [] = false
-is_filled (b ∷ bs) = true
-
--- the longest runs of bytes that aren't blanks
-abbrev pub tokens_of : List ℕ → List (List ℕ)
-tokens_of line = filter is_filled (slice_split is_blank line)
+use Rattle.surf_text.specs.Bytes.{lines_of, tokens_of}
 
 abbrev pub is_comment : List ℕ → Bool
 is_comment [] = false

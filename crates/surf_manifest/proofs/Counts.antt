@@ -10,7 +10,7 @@ use Rattle.surf_manifest.specs.declared.error.ManifestError.{ManifestError}
 use Rattle.surf_manifest.specs.declared.error.ManifestError.TheVariants.{BadLine, BadOption}
 use Rattle.surf_manifest.specs.declared.line.BlockKind.{BlockKind}
 use Rattle.surf_manifest.specs.declared.line.BlockKind.TheVariants.{Rules, State, Colormap}
-use Rattle.surf_manifest.specs.Bytes.{is_blank, is_filled, is_word, tokens_of, trimmed, before, after}
+use Rattle.surf_text.specs.Bytes.{is_blank, is_filled, is_word, tokens_of, trimmed, before, after}
 use Rattle.surf_manifest.specs.Drafts.{HasRoom}
 use Rattle.surf_manifest.specs.Grammar.{line_fault, unless_fault}
 use Rattle.surf_manifest.specs.Item.{Item, Geometry, Wrap, Kept, Rule, Row, Colour, is_name, item_of, option_from, setting_of, geometry_of, wrap_of, bracketed_rule, rated_rule, rule_found, rule_from, rule_of_tokens, rate_of, rule_line_of}

@@ -7,7 +7,7 @@ use Rattle.std.proofs.lemmas.List.Folds.{list_all-append}
 use Rattle.surf_manifest.specs.declared.error.ManifestError.{ManifestError}
 use Rattle.surf_manifest.specs.declared.error.ManifestError.TheVariants as faults
 use Rattle.surf_manifest.specs.declared.error.Block.TheVariants as blocks
-use Rattle.surf_manifest.specs.Bytes.{lines_of, lacks}
+use Rattle.surf_text.specs.Bytes.{lines_of, lacks}
 use Rattle.surf_manifest.specs.Line.{Line, Skipped, Opens, Closes, Includes, Unknown, Content, line_of}
 use Rattle.surf_manifest.specs.Item.{Item, Geometry, Wrap, Kept, Rule, Row, Colour, is_name, item_of}
 use Rattle.surf_manifest.specs.Grammar.{ManifestText, Parts, Known, line_fault, item_fault, text_fault, unless_fault, manifest_from}

@@ -7,7 +7,7 @@ use Rattle.surf_manifest.specs.declared.error.ManifestError.TheVariants as fault
 use Rattle.surf_manifest.specs.declared.error.Block.TheVariants as blocks
 use Rattle.surf_manifest.specs.declared.line.BlockKind.{BlockKind}
 use Rattle.surf_manifest.specs.declared.line.BlockKind.TheVariants.{Rules, State, Colormap}
-use Rattle.surf_manifest.specs.Bytes.{lines_of}
+use Rattle.surf_text.specs.Bytes.{lines_of}
 use Rattle.surf_manifest.specs.Line.{Line, Skipped, Opens, Closes, Includes, Unknown, Content, line_of}
 use Rattle.surf_manifest.specs.Item.{Item, Geometry, Wrap, Kept, Rule, Row, Colour, item_of}
 use Rattle.surf_manifest.specs.Grammar.{ManifestText, Parts, Known, open_fault, item_fault, line_fault, text_fault, unless_fault, manifest_from, finish, manifest_of}

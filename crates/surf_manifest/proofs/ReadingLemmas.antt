@@ -6,7 +6,7 @@ use Rattle.std.proofs.lemmas.Result.{MatchResult-weaker}
 use Rattle.surf_manifest.specs.declared.error.ManifestError.{ManifestError}
 use Rattle.surf_manifest.specs.declared.line.BlockKind.TheVariants.{Rules, State, Colormap}
 use Rattle.surf_manifest.specs.Answers.{Refuses}
-use Rattle.surf_manifest.specs.Bytes.{is_blank, tokens_of, trimmed, without_front, without_end, unless_last}
+use Rattle.surf_text.specs.Bytes.{is_blank, tokens_of, trimmed, without_front, without_end, unless_last}
 use Rattle.surf_manifest.specs.Drafts.{HasRoom, HasRoomFor}
 use Rattle.surf_manifest.specs.Grammar.{item_fault, line_fault, unless_fault}
 use Rattle.surf_manifest.specs.Item.{item_of}

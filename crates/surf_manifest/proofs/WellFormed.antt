@@ -8,7 +8,7 @@ use Rattle.std.proofs.lemmas.Slice.Eq.{bytes_eq-Decides}
 use Rattle.surf_manifest.specs.declared.error.ManifestError.{ManifestError}
 use Rattle.surf_manifest.specs.declared.error.ManifestError.TheVariants.{BadLine, BadOption}
 use Rattle.surf_lattice.specs.declared.site.GridKind.TheVariants.{Square, Hex}
-use Rattle.surf_manifest.specs.Bytes.{is_blank, is_filled, is_word, tokens_of, without_front, without_end, unless_last, trimmed, before, after, lacks}
+use Rattle.surf_text.specs.Bytes.{is_blank, is_filled, is_word, tokens_of, without_front, without_end, unless_last, trimmed, before, after, lacks}
 use Rattle.surf_manifest.specs.Line.{Line, Skipped, Opens, Closes, Includes, Unknown, Content, is_comment_sign, is_include, mark_of, line_of_text, line_of}
 use Rattle.surf_manifest.specs.Item.{Item, Geometry, Wrap, Kept, Rule, Row, Colour, is_name, item_of, option_from, setting_of, geometry_of, wrap_of, bracketed_rule, rated_rule, rule_of_tokens, rule_found, rule_from, rate_of, rule_line_of, one_test, two_test}
 use Rattle.surf_manifest.specs.WellFormed.{begins_content, is_text, is_option, is_colour, is_rule}

@@ -4,7 +4,7 @@ use Rattle.surf_lattice.specs.declared.site.GridKind.TheVariants.{Square}
 use Rattle.surf_manifest.specs.declared.error.ManifestError.{ManifestError}
 use Rattle.surf_manifest.specs.declared.error.ManifestError.TheVariants as faults
 use Rattle.surf_manifest.specs.declared.error.Block.TheVariants as blocks
-use Rattle.surf_manifest.specs.Bytes.{ended}
+use Rattle.surf_text.specs.Bytes.{ended}
 use Rattle.surf_manifest.specs.Grammar.{manifest_of}
 
 -- a manifest with this rule line and these rows

@@ -9,7 +9,7 @@ use Rattle.surf_manifest.specs.declared.options.OptionLine.{OptionLine}
 use Rattle.surf_manifest.specs.declared.error.ManifestError.{ManifestError}
 use Rattle.surf_manifest.specs.declared.error.ManifestError.TheVariants as faults
 use Rattle.surf_manifest.specs.declared.error.Block.TheVariants as blocks
-use Rattle.surf_manifest.specs.Bytes.{lines_of}
+use Rattle.surf_text.specs.Bytes.{lines_of}
 use Rattle.surf_manifest.specs.declared.line.BlockKind.{BlockKind}
 use Rattle.surf_manifest.specs.declared.line.BlockKind.TheVariants.{Rules, State, Colormap}
 use Rattle.surf_manifest.specs.Line.{is_block, Line, Skipped, Opens, Closes, Includes, Unknown, Content, line_of}

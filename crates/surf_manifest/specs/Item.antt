@@ -10,7 +10,7 @@ use Rattle.surf_world.specs.Systems as systems
 use Rattle.surf_manifest.specs.declared.options.OptionLine.{OptionLine}
 use Rattle.surf_manifest.specs.declared.error.ManifestError.{ManifestError}
 use Rattle.surf_manifest.specs.declared.error.ManifestError.TheVariants.{BadLine, BadRule, BadRate, BadOption}
-use Rattle.surf_manifest.specs.Bytes.{tokens_of, trimmed, before, after, is_plain, is_word, is_digits}
+use Rattle.surf_text.specs.Bytes.{tokens_of, trimmed, before, after, is_plain, is_word, is_digits}
 use Rattle.surf_manifest.specs.declared.line.BlockKind.{BlockKind}
 use Rattle.surf_manifest.specs.declared.line.BlockKind.TheVariants.{Rules, State, Colormap}
 use Rattle.surf_manifest.specs.Line.{is_comment_sign}

@@ -1,4 +1,3 @@
-pub mod Bytes
 pub mod Line
 pub mod Item
 pub mod Grammar

@@ -3,7 +3,7 @@ use Rattle.std.specs.Prelude.{ℕ, Bool, false, ◌||◌, ◌==◌, List, [], �
 use Rattle.std.specs.Str.{bytes_eq}
 use Rattle.surf_manifest.specs.declared.line.BlockKind.{BlockKind}
 use Rattle.surf_manifest.specs.declared.line.BlockKind.TheVariants.{Rules, State, Colormap}
-use Rattle.surf_manifest.specs.Bytes.{tokens_of, trimmed}
+use Rattle.surf_text.specs.Bytes.{tokens_of, trimmed}
 
 abbrev pub block_number : BlockKind → ℕ
 block_number Rules = 0

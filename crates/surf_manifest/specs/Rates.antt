@@ -1,7 +1,7 @@
 -- The two parts of a rate.
 use Rattle.std.specs.Prelude.{ℕ, List, length, Option, Some, None, ◌&&◌, nat_le, if◌then◌else◌}
 use Rattle.surf_base.specs.Decimal.{value_from}
-use Rattle.surf_manifest.specs.Bytes.{is_digits}
+use Rattle.surf_text.specs.Bytes.{is_digits}
 use Rattle.surf_manifest.specs.Item.{millionths}
 
 abbrev pub whole_of : List ℕ → Option ℕ

@@ -4,7 +4,7 @@ use Rattle.std.specs.List.{list_all}
 use Rattle.std.specs.Str.{bytes_eq}
 use Rattle.surf_world.specs.Systems as systems
 use Rattle.surf_manifest.specs.declared.options.OptionLine.{OptionLine}
-use Rattle.surf_manifest.specs.Bytes.{without_front, without_end, is_blank, is_word, lacks}
+use Rattle.surf_text.specs.Bytes.{without_front, without_end, is_blank, is_word, lacks}
 use Rattle.surf_manifest.specs.Line.{is_comment_sign}
 use Rattle.surf_manifest.specs.Item.{is_name}
 use Rattle.surf_manifest.specs.Grammar.{ManifestText, manifest_of}

@@ -11,7 +11,6 @@ mod draft;
 mod error;
 mod laws;
 mod line;
-mod lines;
 mod manifest;
 mod numbering;
 mod option_lines;
@@ -23,16 +22,13 @@ mod rows;
 mod rule_lines;
 #[cfg(test)]
 mod tests;
-mod texts;
 mod words;
 mod worlds;
 
 pub use error::{Block, ManifestError};
 pub use laws::{read_is_well_formed, steps_are_grammar};
 pub use line::BlockKind;
-pub use lines::{first_line, next_token};
 pub use manifest::Manifest;
 pub use options::OptionLine;
 pub use reader::read_manifest;
-pub use texts::trim;
 pub use words::is_name_token;

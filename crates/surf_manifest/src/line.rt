@@ -1,11 +1,10 @@
 // What a line is, by itself.
 ghost use Rattle.std.specs.Prelude.{◌≡◌};
-ghost use Rattle.surf_manifest.specs.Bytes.{tokens_of};
+ghost use Rattle.surf_text.specs.Bytes.{tokens_of};
 ghost use Rattle.surf_manifest.specs.Line.{is_include, line_of, line_of_text, mark_of};
 ghost use Rattle.surf_manifest.specs.Kinds.{line_of_kind};
 
-use crate::lines::next_token;
-use crate::texts::trim;
+use surf_text::{next_token, trim};
 
 /// A block of a manifest.
 #[derive(Clone, Copy, Debug, PartialEq, Eq)]

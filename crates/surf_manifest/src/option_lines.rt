@@ -5,8 +5,7 @@ ghost use Rattle.surf_manifest.specs.Item.{geometry_of, option_of, setting_of, w
 ghost use Rattle.surf_manifest.specs.Said.{item_of_setting};
 
 use crate::error::ManifestError;
-use crate::texts::{cut, trim};
-use crate::words::is_key;
+use surf_text::{cut, is_word, trim};
 use surf_lattice::GridKind;
 
 /// What an option line sets.
@@ -62,7 +61,7 @@ pub fn option_line(number: u64, text: &[u8]) -> Result<Setting<'_>, ManifestErro
     let Some(value) = rest else {
         return Err(ManifestError::BadLine(number));
     };
-    if !is_key(key) {
+    if !is_word(key) {
         return Err(ManifestError::BadLine(number));
     }
     setting_at(number, key, trim(value))

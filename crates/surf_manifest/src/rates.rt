@@ -3,7 +3,7 @@ ghost use Rattle.std.specs.Prelude.{◌≡◌, ◌≤◌, IfSome};
 ghost use Rattle.surf_manifest.specs.Item.{rate_of};
 ghost use Rattle.surf_manifest.specs.Rates.{whole_of, fraction_of};
 
-use crate::texts::cut;
+use surf_text::cut;
 
 fn whole(digits: &[u8]) -> Option<u64>
     ensures value { result ≡ whole_of digits.now }

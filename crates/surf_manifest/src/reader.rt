@@ -7,7 +7,7 @@ ghost use Rattle.surf_manifest.specs.Limits.{finished};
 ghost use Rattle.surf_manifest.specs.Readings.{IsCounted, reached_by};
 
 use crate::error::ManifestError;
-use crate::lines::first_line;
+use surf_text::first_line;
 use crate::manifest::Manifest;
 use crate::reading::Reading;
 use std::alloc::Global;

@@ -2,14 +2,14 @@
 ghost use Rattle.std.specs.List.{list_all};
 ghost use Rattle.std.specs.Prelude.{◌≡◌, ◌+◌, ◌<◌, ◌^◌, IfErr, IfOk, MatchResult, [], ◌∷◌, length, true};
 ghost use Rattle.surf_manifest.specs.Answers.{Refuses};
-ghost use Rattle.surf_manifest.specs.Bytes.{tokens_of};
+ghost use Rattle.surf_text.specs.Bytes.{tokens_of};
 ghost use Rattle.surf_manifest.specs.Drafts.{IsDraft, held_by};
 ghost use Rattle.surf_manifest.specs.Item.{is_name, row_of};
 ghost use Rattle.surf_manifest.specs.Limits.{item_step, with_names, with_row};
 
 use crate::draft::{Draft, SITE_LIMIT};
 use crate::error::ManifestError;
-use crate::lines::next_token;
+use surf_text::next_token;
 use crate::words::is_name_token;
 use surf_base::NoMemory;
 

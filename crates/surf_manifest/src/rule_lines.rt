@@ -1,15 +1,15 @@
 // Lines of the rule block.
 ghost use Rattle.std.specs.Prelude.{◌≡◌, ◌&&◌, IfOk, MatchOption, MatchResult, None, Some, codes, true};
 ghost use Rattle.std.specs.Str.{bytes_eq};
-ghost use Rattle.surf_manifest.specs.Bytes.{after, before, tokens_of};
+ghost use Rattle.surf_text.specs.Bytes.{after, before, tokens_of};
 ghost use Rattle.surf_manifest.specs.Item.{Rule, bracketed_rule, is_name, one_test, rule_from, rule_line_of, rule_of_tokens};
 ghost use Rattle.surf_manifest.specs.Said.{rule_of_line};
 ghost use Rattle.surf_manifest.specs.WellFormed.{is_rule};
 
 use crate::error::ManifestError;
-use crate::lines::next_token;
+use surf_text::next_token;
 use crate::rates::rate;
-use crate::texts::{cut, trim};
+use surf_text::{cut, trim};
 use crate::words::is_name_token;
 
 /// The names of a rule, at one site or at two.

@@ -5,7 +5,7 @@ use Rattle.std.proofs.lemmas.List.Elements.{All-drop}
 use Rattle.std.specs.Option.{option_copied}
 use Rattle.std.proofs.Math.Nat.{mul-suc}
 use Rattle.surf_world.specs.Systems as systems
-use Rattle.surf_manifest.specs.Bytes.{ended, spaced, rows_of}
+use Rattle.surf_text.specs.Bytes.{ended, spaced, rows_of}
 use Rattle.surf_manifest_print.specs.Prints.{side_tokens, rule_tokens, geometry_text, wrap_text, option_text, rule_block, state_block, colour_lines, print_of}
 use Rattle.surf_manifest.specs.Grammar.{ManifestText}
 use Rattle.surf_manifest_print.specs.Rows.{after_blanks}

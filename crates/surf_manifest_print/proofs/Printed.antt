@@ -7,7 +7,7 @@ use Rattle.std.proofs.lemmas.Bool.{and_parts, not-true, ltb-true, cases_Bool, eq
 use Rattle.std.proofs.lemmas.Slice.Eq.{bytes_eq-Decides}
 use Rattle.std.proofs.lemmas.List.Folds.{list_all-append}
 use Rattle.surf_world.specs.Systems as systems
-use Rattle.surf_manifest.specs.Bytes.{is_filled, is_plain, is_word, is_blank, lacks, after, trimmed, without_front, without_end, tokens_of, spaced}
+use Rattle.surf_text.specs.Bytes.{is_filled, is_plain, is_word, is_blank, lacks, after, trimmed, without_front, without_end, tokens_of, spaced}
 use Rattle.surf_manifest.specs.Line.{Skipped, Content, line_of, is_comment_sign}
 use Rattle.surf_manifest.specs.declared.line.BlockKind.TheVariants.{Rules, State}
 use Rattle.surf_manifest.specs.declared.options.OptionLine.{OptionLine}

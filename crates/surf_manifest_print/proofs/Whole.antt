@@ -5,14 +5,14 @@ use Rattle.std.proofs.lemmas.Bool.{le-ltb, ne_eqb}
 use Rattle.surf_lattice.specs.declared.site.GridKind.{GridKind}
 use Rattle.surf_lattice.specs.declared.site.GridKind.TheVariants.{Square, Hex}
 use Rattle.surf_world.specs.Systems as systems
-use Rattle.surf_manifest.specs.Bytes.{spaced}
+use Rattle.surf_text.specs.Bytes.{spaced}
 use Rattle.surf_manifest.specs.Line.{Opens, Closes}
 use Rattle.surf_manifest.specs.declared.line.BlockKind.TheVariants.{Rules, State, Colormap}
 use Rattle.surf_manifest.specs.declared.options.OptionLine.{OptionLine}
 use Rattle.surf_manifest.specs.Item.{Geometry, Wrap, is_name}
 use Rattle.surf_manifest.specs.Grammar.{ManifestText, Parts, Known, finish, manifest_from, manifest_of}
 use Rattle.surf_manifest.specs.Steps.{nothing}
-use Rattle.surf_manifest.specs.Bytes.{rows_of}
+use Rattle.surf_text.specs.Bytes.{rows_of}
 use Rattle.surf_manifest.specs.WellFormed.{are_colours, IsWellFormed}
 use Rattle.surf_manifest_print.specs.Legends.{LegendText, IsLegend}
 use Rattle.surf_manifest_print.specs.Prints.{option_text, rule_text, geometry_text, wrap_text, colour_lines, block_lines, state_block, legend_lines, print_lines, print_of, ReadsPrint, formatted, formatted_manifest, KeepsFormat}

@@ -1,7 +1,7 @@
 -- Legends: the places of inputs and outputs, and a number of events.
 use Rattle.std.specs.Prelude.{ℕ, ◌<◌, ◌≡◌, ◌^◌, Bool, true, ◌&&◌, nat_lt, List, Option, Some, None}
 use Rattle.std.specs.List.{list_all}
-use Rattle.surf_manifest.specs.Bytes.{is_word}
+use Rattle.surf_text.specs.Bytes.{is_word}
 use Rattle.surf_manifest_print.specs.declared.legend.Place.{Place}
 
 pub record LegendText : Type 0 where

@@ -1,7 +1,7 @@
 // The lines of a colormap.
 ghost use Rattle.std.specs.Option.{option_copied};
 ghost use Rattle.std.specs.Prelude.{◌++◌, ◌≡◌, OnOk};
-ghost use Rattle.surf_manifest.specs.Bytes.{ended};
+ghost use Rattle.surf_text.specs.Bytes.{ended};
 ghost use Rattle.surf_manifest_print.specs.Prints.{colour_lines};
 
 use crate::printer::Printer;

@@ -1,7 +1,7 @@
 // The lines of a legend.
 ghost use Rattle.std.specs.Option.{option_copied};
 ghost use Rattle.std.specs.Prelude.{◌++◌, ◌∷◌, ◌≡◌, OnOk, Some, [], map};
-ghost use Rattle.surf_manifest.specs.Bytes.{ended};
+ghost use Rattle.surf_text.specs.Bytes.{ended};
 ghost use Rattle.surf_manifest_print.specs.Prints.{events_text, legend_lines, place_text, site_text};
 
 use crate::legend::{Legend, Place};

@@ -1,7 +1,7 @@
 // The canonical text of a manifest.
 ghost use Rattle.std.specs.Option.{option_copied};
 ghost use Rattle.std.specs.Prelude.{◌++◌, ◌∷◌, ◌≡◌, IfOk, IfSome, None, Ok, OnOk, [], codes, map};
-ghost use Rattle.surf_manifest.specs.Bytes.{ended, rows_of, spaced};
+ghost use Rattle.surf_text.specs.Bytes.{ended, rows_of, spaced};
 ghost use Rattle.surf_manifest.specs.Grammar.{manifest_of};
 ghost use Rattle.surf_manifest.specs.WellFormed.{IsWellFormed};
 ghost use Rattle.surf_manifest_print.specs.Legends.{HasWords, IsLegend};

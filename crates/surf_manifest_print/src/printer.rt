@@ -2,7 +2,7 @@
 ghost use Rattle.std.specs.Fmt.{decimal};
 ghost use Rattle.std.specs.Prelude.{◌++◌, ◌<◌, ◌==◌, ◌∷◌, ◌≡◌, IfOk, OnOk, [], length};
 ghost use Rattle.surf_manifest_print.specs.Prints.{fraction_text, rate_text, six_digits};
-ghost use Rattle.surf_manifest.specs.Bytes.{without_end};
+ghost use Rattle.surf_text.specs.Bytes.{without_end};
 ghost use Rattle.surf_rules.specs.Names.{text_of};
 
 use std::alloc::Global;

@@ -1,6 +1,6 @@
 // The rows of the initial state.
 ghost use Rattle.std.specs.Prelude.{◌*◌, ◌++◌, ◌<◌, ◌∷◌, ◌≡◌, OnOk, [], codes, length, map};
-ghost use Rattle.surf_manifest.specs.Bytes.{ended, rows_of, spaced};
+ghost use Rattle.surf_text.specs.Bytes.{ended, rows_of, spaced};
 ghost use Rattle.surf_manifest.specs.Drafts.{NamesBelow};
 ghost use Rattle.surf_manifest_print.specs.Rows.{after_blanks};
 ghost use Rattle.surf_rules.specs.Names.{text_of};

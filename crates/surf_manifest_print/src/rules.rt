@@ -1,7 +1,7 @@
 // The lines of rules.
 ghost use Rattle.std.specs.Option.{option_map};
 ghost use Rattle.std.specs.Prelude.{◌++◌, ◌<◌, ◌∷◌, ◌≡◌, IfSome, OnOk, [], codes, length, map};
-ghost use Rattle.surf_manifest.specs.Bytes.{ended, spaced};
+ghost use Rattle.surf_text.specs.Bytes.{ended, spaced};
 ghost use Rattle.surf_manifest.specs.Drafts.{RulesBelow, named_rule};
 ghost use Rattle.surf_manifest_print.specs.Prints.{rate_text, rule_text, rule_tokens, side_tokens};
 ghost use Rattle.surf_rules.specs.Names.{text_of};

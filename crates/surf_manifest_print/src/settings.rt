@@ -1,6 +1,6 @@
 // The lines of options.
 ghost use Rattle.std.specs.Prelude.{◌++◌, ◌∷◌, ◌≡◌, OnOk, [], map};
-ghost use Rattle.surf_manifest.specs.Bytes.{ended};
+ghost use Rattle.surf_text.specs.Bytes.{ended};
 ghost use Rattle.surf_manifest_print.specs.Prints.{geometry_text, option_text, wrap_text};
 
 use crate::printer::Printer;

@@ -1,5 +1,5 @@
 ghost use Rattle.std.specs.Prelude.{◌≡◌, IfOk, true};
-ghost use Rattle.surf_manifest.specs.Bytes.{is_word};
+ghost use Rattle.surf_text.specs.Bytes.{is_word};
 ghost use Rattle.surf_manifest_print.specs.Legends.{has_word};
 
 use crate::room::manifest_room;

@@ -9,7 +9,7 @@ use Rattle.surf_world.specs.Systems.{System, Enabled, IsRun, left_by}
 use Rattle.surf_world.specs.Worlds.{Placed}
 use Rattle.surf_world.specs.Renamings.{renamed, renamed_system}
 use Rattle.surf_world.proofs.Renamed.{left_renamed, enabled_back, run_both, texts_apart}
-use Rattle.surf_manifest.specs.Bytes.{lines_of}
+use Rattle.surf_text.specs.Bytes.{lines_of}
 use Rattle.surf_manifest.specs.Line.{line_of}
 use Rattle.surf_manifest.specs.Grammar.{ManifestText, manifest_of, read_from}
 use Rattle.surf_manifest.specs.Numbered.{IsNumbered}

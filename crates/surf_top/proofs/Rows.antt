@@ -7,7 +7,7 @@ use Rattle.std.proofs.lemmas.Option.{slice_get_within, get_or_from_slice_get, sl
 use Rattle.surf_base.specs.Known.{AppendsFront}
 use Rattle.surf_base.specs.Emits.{Sent, Emits}
 use Rattle.surf_base.proofs.EmitLemmas.{sent_nothing, sent_more, front_after, front_longer, rose_earlier}
-use Rattle.surf_manifest.specs.Bytes.{spaced, ended, rows_of}
+use Rattle.surf_text.specs.Bytes.{spaced, ended, rows_of}
 use Rattle.surf_top.specs.Prints.{cells, behind_name}
 
 pub cells_append : (width x : ℕ) (ts us : List (List ℕ)) → cells width x (ts ++ us) ≡ cells width x ts ++ cells width (x + length ts) us

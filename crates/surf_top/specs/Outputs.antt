@@ -3,7 +3,7 @@ use Rattle.std.specs.Prelude.{ℕ, ◌≡◌, ◌++◌, List, [], length, map, c
 use Rattle.std.specs.Fmt.{decimal}
 use Rattle.surf_words.specs.Words.{Spoken, words_of}
 use Rattle.surf_words.specs.Words as words
-use Rattle.surf_manifest.specs.Bytes.{lines_of}
+use Rattle.surf_text.specs.Bytes.{lines_of}
 use Rattle.surf_manifest.specs.Line.{line_of}
 use Rattle.surf_manifest.specs.Grammar.{ManifestText, manifest_of, read_from}
 use Rattle.surf_manifest.specs.declared.error.ManifestError.{ManifestError}

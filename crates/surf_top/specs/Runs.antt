@@ -8,7 +8,7 @@ use Rattle.surf_world.specs.Choices.{choices}
 use Rattle.surf_pick.specs.Draws.{seeded, words_of}
 use Rattle.surf_sim.specs.Simulations.{sim_events}
 use Rattle.surf_trace.specs.Traces.{trace_text}
-use Rattle.surf_manifest.specs.Bytes.{ended, spaced, rows_of}
+use Rattle.surf_text.specs.Bytes.{ended, spaced, rows_of}
 
 -- the rows of a configuration, each on a line of its own
 abbrev pub rows_text : Grid → List (List ℕ) → List ℕ

@@ -2,7 +2,7 @@
 ghost use Rattle.std.specs.Prelude.{◌≡◌, ◌≤◌, ◌<◌, ◌*◌, ◌++◌, ◌∷◌, [], OnOk, All, length, map, take, drop, codes, Some, slice_get};
 ghost use Rattle.surf_base.specs.Emits.{Emits};
 ghost use Rattle.surf_rules.specs.Names.{text_of};
-ghost use Rattle.surf_manifest.specs.Bytes.{spaced, rows_of};
+ghost use Rattle.surf_text.specs.Bytes.{spaced, rows_of};
 ghost use Rattle.surf_top.specs.Prints.{behind_name, foot_and_word, end_text, number_word};
 ghost use Rattle.surf_top.specs.Runs.{rows_text, state_foot};
 

@@ -7,7 +7,7 @@ use Rattle.std.proofs.lemmas.Fmt.{decimal_by_steps, length-decimal-le}
 use Rattle.std.proofs.lemmas.Bool.{and_parts, le-leb, lt-ltb, leb-true, ne_eqb}
 use Rattle.std.proofs.lemmas.List.Folds.{list_all-append}
 use Rattle.surf_base.specs.Decimal.{value_from, decimal_of, is_digit}
-use Rattle.surf_manifest.specs.Bytes.{is_filled, is_plain, is_word}
+use Rattle.surf_text.specs.Bytes.{is_filled, is_plain, is_word}
 use Rattle.surf_trace.specs.TraceTexts.{short_of, if_short, is_skipped}
 use Rattle.surf_trace.proofs.Words.{both}
 

@@ -9,7 +9,7 @@ use Rattle.surf_base.specs.Decimal.{decimal_of}
 use Rattle.surf_lattice.specs.declared.site.Site.{Site}
 use Rattle.surf_lattice.specs.Grids.{site_from}
 use Rattle.surf_world.specs.declared.event.Event.{Event}
-use Rattle.surf_manifest.specs.Bytes.{lines_of, tokens_of, trimmed, spaced, is_word}
+use Rattle.surf_text.specs.Bytes.{lines_of, tokens_of, trimmed, spaced, is_word}
 use Rattle.surf_trace.specs.Traces.{event_text, events_text, trace_text}
 use Rattle.surf_trace.specs.TraceTexts.{short_of, site_of, second_of, is_number, event_from, event_of, is_skipped, block_of, trace_of, IsShortSite, IsShort}
 use Rattle.surf_trace.proofs.Words.{both, line_first, spaced_trimmed, spaced_line, spaced_tokens}

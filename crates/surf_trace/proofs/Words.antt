@@ -3,7 +3,7 @@ use Rattle.std.proofs.Common.{ℕ, ◌≡◌, ◌<◌, List, [], ◌∷◌, ◌+
 use Rattle.std.specs.List.{list_all, slice_split}
 use Rattle.std.proofs.lemmas.Bool.{and_parts, not-true, ne_eqb, leb-true}
 use Rattle.std.proofs.lemmas.List.Folds.{list_all-append}
-use Rattle.surf_manifest.specs.Bytes.{lines_of, is_blank, is_filled, tokens_of, trimmed, without_front, without_end, unless_last, is_plain, is_word, lacks, spaced}
+use Rattle.surf_text.specs.Bytes.{lines_of, is_blank, is_filled, tokens_of, trimmed, without_front, without_end, unless_last, is_plain, is_word, lacks, spaced}
 
 pub both : (a b : Bool) → a ≡ true → b ≡ true → (a && b) ≡ true
 both a b p q = rw (p, q) refl

@@ -1,6 +1,6 @@
 -- What stands before the trace of a text.
 use Rattle.std.specs.Prelude.{ℕ, Bool, bytes_eq, codes, List, [], ◌∷◌, if◌then◌else◌}
-use Rattle.surf_manifest.specs.Bytes.{trimmed}
+use Rattle.surf_text.specs.Bytes.{trimmed}
 
 -- the line that opens a trace block
 abbrev pub opens_trace : List ℕ → Bool

@@ -4,7 +4,7 @@ use Rattle.surf_base.specs.Decimal.{decimal_of}
 use Rattle.surf_lattice.specs.declared.site.Site.{Site}
 use Rattle.surf_lattice.specs.Grids.{site_from}
 use Rattle.surf_world.specs.declared.event.Event.{Event}
-use Rattle.surf_manifest.specs.Bytes.{lines_of, tokens_of, trimmed}
+use Rattle.surf_text.specs.Bytes.{lines_of, tokens_of, trimmed}
 use Rattle.surf_trace.specs.declared.error.TraceError.{TraceError}
 use Rattle.surf_trace.specs.declared.error.TraceError.TheVariants.{NoTrace, BadTrace, Unclosed, NoMemory}
 

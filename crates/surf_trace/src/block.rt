@@ -1,12 +1,12 @@
 // The trace block of a text.
 ghost use Rattle.std.specs.Prelude.{◌≡◌, ◌+◌, ◌<◌, ◌≤◌, ◌^◌, [], Ok, Err, IfOk, IfErr, IfSome, IfNone, length};
-ghost use Rattle.surf_manifest.specs.Bytes.{lines_of};
+ghost use Rattle.surf_text.specs.Bytes.{lines_of};
 ghost use Rattle.surf_trace.specs.TraceTexts.{block_of, is_skipped, trace_of, Refuses};
 
 use crate::TraceError;
 use crate::event_line::read_event;
 use std::alloc::Global;
-use surf_manifest::{first_line, trim};
+use surf_text::{first_line, trim};
 use surf_world::Event;
 
 // The number of the line that opens the block, and what follows it.

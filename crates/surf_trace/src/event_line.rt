@@ -1,11 +1,11 @@
 // The event of a line.
 ghost use Rattle.std.specs.Prelude.{◌≡◌};
-ghost use Rattle.surf_manifest.specs.Bytes.{tokens_of};
+ghost use Rattle.surf_text.specs.Bytes.{tokens_of};
 ghost use Rattle.surf_trace.specs.TraceTexts.{event_of, second_of, short_of, site_of};
 
 use surf_base::read_decimal;
 use surf_lattice::Site;
-use surf_manifest::next_token;
+use surf_text::next_token;
 use surf_world::Event;
 
 fn read_short(token: &[u8]) -> Option<u32>

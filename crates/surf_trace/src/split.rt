@@ -1,9 +1,9 @@
 // What stands before the trace of a text.
 ghost use Rattle.std.specs.Prelude.{ℕ, ◌≡◌, ◌+◌, ◌<◌, ◌≤◌, ◌∷◌, ◌++◌, List, [], take, length, IfSome, IfNone};
-ghost use Rattle.surf_manifest.specs.Bytes.{lines_of};
+ghost use Rattle.surf_text.specs.Bytes.{lines_of};
 ghost use Rattle.surf_trace.specs.Splits.{opens_trace, before_trace};
 
-use surf_manifest::trim;
+use surf_text::trim;
 
 // The place of the first line feed.
 fn line_feed(text: &[u8]) -> Option<usize>

@@ -1,5 +1,6 @@
 use Rattle.std.proofs.Common.{◌≡◌, length}
-use Rattle.surf_auto.specs.Lines.{lines_of, first_told}
+use Rattle.surf_text.specs.Bytes.{lines_of}
+use Rattle.surf_auto.specs.Lines.{first_told}
 use Rattle.surf_auto.proofs.lines.is_table.Given as goal
 
 abbrev pub invariant-loop-rest : goal.invariant-loop-rest

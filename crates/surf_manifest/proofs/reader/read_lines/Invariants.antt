@@ -1,5 +1,5 @@
 use Rattle.std.proofs.Common.{◌≡◌, ◌≤◌, ◌-◌, map, length}
-use Rattle.surf_manifest.specs.Bytes.{lines_of}
+use Rattle.surf_text.specs.Bytes.{lines_of}
 use Rattle.surf_manifest.specs.Drafts.{IsDraft}
 use Rattle.surf_manifest.specs.Line.{line_of}
 use Rattle.surf_manifest.specs.Grammar.{manifest_of}

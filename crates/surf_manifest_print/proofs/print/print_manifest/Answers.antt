@@ -1,6 +1,6 @@
 use Rattle.std.proofs.Common.{rules, ◌≡◌, ◌∙◌, ◌++◌, [], ap, None}
 use Rattle.std.specs.Option.{option_copied}
-use Rattle.surf_manifest.specs.Bytes.{ended}
+use Rattle.surf_text.specs.Bytes.{ended}
 use Rattle.surf_manifest.specs.Grammar.{manifest_of}
 use Rattle.surf_manifest_print.specs.Prints.{legend_lines, print_lines, print_of}
 use Rattle.surf_manifest_print.proofs.PrintLemmas.{then_lines}

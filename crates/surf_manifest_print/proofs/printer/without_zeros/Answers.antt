@@ -1,6 +1,6 @@
 use Rattle.std.proofs.Common.{rules, arith, sym, ◌∙◌, ◌==◌, eq-eqb}
 use Rattle.std.proofs.lemmas.Bool.{ne_eqb}
-use Rattle.surf_manifest.proofs.Cuts.{end_here, end_down}
+use Rattle.surf_text.proofs.Cuts.{end_here, end_down}
 use Rattle.surf_manifest_print.proofs.printer.without_zeros.Goals as goal
 
 pub returns-then-digits-end-ne48 : goal.returns-then-digits-end-ne48

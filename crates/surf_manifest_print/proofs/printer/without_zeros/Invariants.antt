@@ -1,5 +1,5 @@
 use Rattle.std.proofs.Common.{◌≡◌, ◌==◌, ◌≤◌, take, length}
-use Rattle.surf_manifest.specs.Bytes.{without_end}
+use Rattle.surf_text.specs.Bytes.{without_end}
 use Rattle.surf_manifest_print.proofs.printer.without_zeros.Given as goal
 
 abbrev pub invariant-loop-end : goal.invariant-loop-end

@@ -1,6 +1,6 @@
 use Rattle.std.proofs.Common.{rules, arith, ◌≡◌, ◌<◌, ◌≤◌, ◌*◌, ◌++◌, ◌∷◌, [], map, take, drop}
 use Rattle.surf_rules.specs.Names.{text_of}
-use Rattle.surf_manifest.specs.Bytes.{spaced}
+use Rattle.surf_text.specs.Bytes.{spaced}
 use Rattle.surf_top.proofs.Rows.{row_lines, row_more, row_split, cut_within, sent_part, rows_done}
 use Rattle.surf_top.proofs.print.print_rows.Goals as goal
 

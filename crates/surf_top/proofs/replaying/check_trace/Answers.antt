@@ -3,7 +3,7 @@ use Rattle.std.specs.Io.KnownBytes.{Appends}
 use Rattle.surf_base.specs.Known.{AppendsFront}
 use Rattle.surf_world.specs.declared.event.Event.{Event}
 use Rattle.surf_world.specs.Systems.{IsRun}
-use Rattle.surf_manifest.specs.Bytes.{lines_of}
+use Rattle.surf_text.specs.Bytes.{lines_of}
 use Rattle.surf_trace.specs.Replays.{FirstBad}
 use Rattle.surf_trace.specs.Splits.{before_trace}
 use Rattle.surf_trace.specs.TraceTexts.{trace_of}

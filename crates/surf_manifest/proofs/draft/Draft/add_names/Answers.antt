@@ -1,6 +1,6 @@
 use Rattle.std.proofs.Common.{rules, ap, sym, ◌∙◌, arith, ◌≡◌, ◌+◌, length, [], ◌∷◌, true}
 use Rattle.std.specs.List.{list_all}
-use Rattle.surf_manifest.specs.Bytes.{tokens_of}
+use Rattle.surf_text.specs.Bytes.{tokens_of}
 use Rattle.surf_manifest.specs.Drafts.{held_by}
 use Rattle.surf_manifest.specs.Item.{is_name}
 use Rattle.surf_manifest.specs.Limits.{with_names}

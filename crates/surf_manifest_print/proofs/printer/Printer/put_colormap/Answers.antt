@@ -1,6 +1,6 @@
 use Rattle.std.proofs.Common.{◌∙◌, ◌++◌, codes, ap, sym}
 use Rattle.std.specs.Option.{option_copied}
-use Rattle.surf_manifest.specs.Bytes.{ended}
+use Rattle.surf_text.specs.Bytes.{ended}
 use Rattle.surf_manifest_print.specs.Prints.{colour_lines}
 use Rattle.surf_manifest_print.proofs.PrintLemmas.{block}
 use Rattle.surf_manifest_print.proofs.printer.Printer.put_colormap.Goals as goal

@@ -1,5 +1,5 @@
 use Rattle.std.proofs.Common.{◌∙◌, ◌++◌, ◌∷◌, [], ap, map}
-use Rattle.surf_manifest.specs.Bytes.{ended}
+use Rattle.surf_text.specs.Bytes.{ended}
 use Rattle.surf_manifest_print.specs.Prints.{geometry_text, wrap_text, option_text, colour_lines}
 use Rattle.surf_manifest_print.proofs.PrintLemmas.{manifest_put, copied_is}
 use Rattle.surf_manifest_print.proofs.printer.Printer.put_manifest.Goals as goal

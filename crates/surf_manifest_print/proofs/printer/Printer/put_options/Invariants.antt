@@ -1,5 +1,5 @@
 use Rattle.std.proofs.Common.{◌≡◌, ◌++◌, drop, map}
-use Rattle.surf_manifest.specs.Bytes.{ended}
+use Rattle.surf_text.specs.Bytes.{ended}
 use Rattle.surf_manifest_print.specs.Prints.{option_text}
 use Rattle.surf_manifest_print.proofs.printer.Printer.put_options.Given as goal
 

@@ -1,5 +1,5 @@
 use Rattle.std.proofs.Common.{◌≡◌, ◌++◌, ◌*◌, ◌-◌, map, length}
-use Rattle.surf_manifest.specs.Bytes.{ended, rows_of, spaced}
+use Rattle.surf_text.specs.Bytes.{ended, rows_of, spaced}
 use Rattle.surf_manifest.specs.Drafts.{NamesBelow}
 use Rattle.surf_rules.specs.Names.{text_of}
 use Rattle.surf_manifest_print.proofs.printer.Printer.put_rows.Given as goal

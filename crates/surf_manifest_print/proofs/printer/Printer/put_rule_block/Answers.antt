@@ -1,6 +1,6 @@
 use Rattle.std.proofs.Common.{◌∙◌, ◌++◌, codes, map, ap, sym}
 use Rattle.std.proofs.lemmas.Simd.{map-map}
-use Rattle.surf_manifest.specs.Bytes.{ended}
+use Rattle.surf_text.specs.Bytes.{ended}
 use Rattle.surf_manifest.specs.Drafts.{named_rule}
 use Rattle.surf_manifest_print.specs.Prints.{rule_text}
 use Rattle.surf_manifest_print.proofs.PrintLemmas.{block, on_ok}

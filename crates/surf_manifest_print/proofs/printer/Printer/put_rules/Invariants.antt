@@ -1,5 +1,5 @@
 use Rattle.std.proofs.Common.{◌≡◌, ◌++◌, drop, map}
-use Rattle.surf_manifest.specs.Bytes.{ended}
+use Rattle.surf_text.specs.Bytes.{ended}
 use Rattle.surf_manifest_print.specs.Prints.{rule_text}
 use Rattle.surf_manifest.specs.Drafts.{named_rule}
 use Rattle.surf_manifest_print.proofs.printer.Printer.put_rules.Given as goal

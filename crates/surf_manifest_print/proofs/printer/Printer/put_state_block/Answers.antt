@@ -1,5 +1,5 @@
 use Rattle.std.proofs.Common.{codes, map}
-use Rattle.surf_manifest.specs.Bytes.{rows_of, spaced}
+use Rattle.surf_text.specs.Bytes.{rows_of, spaced}
 use Rattle.surf_rules.specs.Names.{text_of}
 use Rattle.surf_manifest_print.proofs.PrintLemmas.{block, on_ok}
 use Rattle.surf_manifest_print.proofs.printer.Printer.put_state_block.Goals as goal

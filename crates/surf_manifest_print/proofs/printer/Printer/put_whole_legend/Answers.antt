@@ -1,5 +1,5 @@
 use Rattle.std.proofs.Common.{rules, ◌≡◌, ◌∙◌, ◌++◌, ◌∷◌, [], ap, map, codes}
-use Rattle.surf_manifest.specs.Bytes.{ended}
+use Rattle.surf_text.specs.Bytes.{ended}
 use Rattle.surf_manifest_print.specs.Prints.{place_text, events_text}
 use Rattle.surf_manifest_print.proofs.PrintLemmas.{legend_put}
 use Rattle.surf_manifest_print.proofs.printer.Printer.put_whole_legend.Goals as goal

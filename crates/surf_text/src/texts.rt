@@ -1,6 +1,6 @@
 // Blanks at the ends of a text, and cuts at a byte.
 ghost use Rattle.std.specs.Prelude.{◌≡◌, Some, None, MatchOption};
-ghost use Rattle.surf_manifest.specs.Bytes.{is_blank, without_front, without_end, trimmed, before, after};
+ghost use Rattle.surf_text.specs.Bytes.{is_blank, without_front, without_end, trimmed, before, after};
 
 /// Whether a byte is a blank: a space, a tab or a carriage return.
 pub fn is_blank_byte(byte: u8) -> bool

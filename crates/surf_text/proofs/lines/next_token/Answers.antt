@@ -1,8 +1,8 @@
 use Rattle.std.proofs.Math.Seq.{drop-length}
 use Rattle.std.proofs.Common.{rules, arith, add-one, ◌∙◌, length, ◌+◌, ◌<◌, ◌≡◌, get_or, true}
-use Rattle.surf_manifest.specs.Bytes.{is_blank}
-use Rattle.surf_manifest.proofs.LinesLemmas.{rest_of, token_at, token_end, not_first}
-use Rattle.surf_manifest.proofs.lines.next_token.Goals as goal
+use Rattle.surf_text.specs.Bytes.{is_blank}
+use Rattle.surf_text.proofs.LinesLemmas.{rest_of, token_at, token_end, not_first}
+use Rattle.surf_text.proofs.lines.next_token.Goals as goal
 
 pub returns-then-is_blank_byte-clause-some : goal.returns-then-is_blank_byte-clause-some
 returns-then-is_blank_byte-clause-some c =

@@ -1,6 +1,6 @@
 // The first line of a text and the first token of a line.
 ghost use Rattle.std.specs.Prelude.{◌≡◌, ◌+◌, ◌<◌, ◌≤◌, ◌∷◌, [], false, length, slice_index, IfSome, IfNone};
-ghost use Rattle.surf_manifest.specs.Bytes.{lines_of, tokens_of, is_blank};
+ghost use Rattle.surf_text.specs.Bytes.{lines_of, tokens_of, is_blank};
 
 use crate::texts::is_blank_byte;
 

@@ -1,7 +1,7 @@
 -- Cuts at a place.
 use Rattle.std.proofs.Common.{ℕ, zero, suc, ◌≡◌, ◌+◌, ◌-◌, ◌<◌, ◌≤◌, Bool, true, false, List, [], ◌∷◌, ◌++◌, length, get_or, take, drop, refl, sym, ◌∙◌, ap, arith, Some, None, drop-cons, add-one}
 use Rattle.std.proofs.lemmas.Bool.{ne_eqb, eq-eqb}
-use Rattle.surf_manifest.specs.Bytes.{without_front, without_end, unless_last, before, after}
+use Rattle.surf_text.specs.Bytes.{without_front, without_end, unless_last, before, after}
 
 pub front_step : (p : ℕ → Bool) (line : List ℕ) (i : ℕ) → i < length line → p (get_or line i 0) ≡ true → without_front p (drop i line) ≡ without_front p (drop (i + 1) line)
 front_step p line i lt at = ap (without_front p) (drop-cons line i 0 lt) ∙ rw (at, add-one) refl

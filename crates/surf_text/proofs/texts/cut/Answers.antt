@@ -1,7 +1,7 @@
 use Rattle.std.proofs.Common.{rules, arith, add-one, sym, ◌+◌}
-use Rattle.surf_manifest.proofs.LinesLemmas.{rest_of}
-use Rattle.surf_manifest.proofs.Cuts.{before_at, after_at, before_none, after_none}
-use Rattle.surf_manifest.proofs.texts.cut.Goals as goal
+use Rattle.surf_text.proofs.LinesLemmas.{rest_of}
+use Rattle.surf_text.proofs.Cuts.{before_at, after_at, before_none, after_none}
+use Rattle.surf_text.proofs.texts.cut.Goals as goal
 
 pub returns-then-byte-sign-clause-front : goal.returns-then-byte-sign-clause-front
 returns-then-byte-sign-clause-front c =

@@ -1,6 +1,6 @@
 use Rattle.std.proofs.Common.{◌≡◌, ◌≤◌, take, length}
-use Rattle.surf_manifest.specs.Bytes.{without_end, is_blank}
-use Rattle.surf_manifest.proofs.texts.trim_end.Given as goal
+use Rattle.surf_text.specs.Bytes.{without_end, is_blank}
+use Rattle.surf_text.proofs.texts.trim_end.Given as goal
 
 abbrev pub invariant-loop-end : goal.invariant-loop-end
 invariant-loop-end l = record {

@@ -1,7 +1,7 @@
 use Rattle.std.proofs.Common.{rules, arith, sym, ◌∙◌}
-use Rattle.surf_manifest.specs.Bytes.{is_blank}
-use Rattle.surf_manifest.proofs.Cuts.{end_here, end_down}
-use Rattle.surf_manifest.proofs.texts.trim_end.Goals as goal
+use Rattle.surf_text.specs.Bytes.{is_blank}
+use Rattle.surf_text.proofs.Cuts.{end_here, end_down}
+use Rattle.surf_text.proofs.texts.trim_end.Goals as goal
 
 pub returns-then-not-is_blank_byte : goal.returns-then-not-is_blank_byte
 returns-then-not-is_blank_byte c =

@@ -1,7 +1,7 @@
 use Rattle.std.proofs.Math.Seq.{drop-length}
 use Rattle.std.proofs.Common.{rules, arith, add-one, length, ◌+◌}
-use Rattle.surf_auto.proofs.LinesLemmas.{rest_of, lines_at, lines_end}
-use Rattle.surf_auto.proofs.lines.first_line.Goals as goal
+use Rattle.surf_text.proofs.LinesLemmas.{rest_of, lines_at, lines_end}
+use Rattle.surf_text.proofs.lines.first_line.Goals as goal
 
 pub returns-then-byte-eq10-clause-lines : goal.returns-then-byte-eq10-clause-lines
 returns-then-byte-eq10-clause-lines c =
