@@ -5,8 +5,8 @@ ghost use Rattle.surf_manifest.specs.Item.{geometry_of, option_of, setting_of, w
 ghost use Rattle.surf_manifest.specs.Said.{item_of_setting};
 
 use crate::error::ManifestError;
-use surf_text::{cut, is_word, trim};
 use surf_lattice::GridKind;
+use surf_text::{cut, is_word, trim};
 
 /// What an option line sets.
 #[derive(Clone, Copy, Debug)]

@@ -7,10 +7,10 @@ ghost use Rattle.surf_manifest.specs.Limits.{finished};
 ghost use Rattle.surf_manifest.specs.Readings.{IsCounted, reached_by};
 
 use crate::error::ManifestError;
-use surf_text::first_line;
 use crate::manifest::Manifest;
 use crate::reading::Reading;
 use std::alloc::Global;
+use surf_text::first_line;
 
 // Reads all lines, up to the first fault.
 fn read_lines(alloc: Global, text: &[u8]) -> Result<Reading, ManifestError>

@@ -9,9 +9,9 @@ ghost use Rattle.surf_manifest.specs.Limits.{item_step, with_names, with_row};
 
 use crate::draft::{Draft, SITE_LIMIT};
 use crate::error::ManifestError;
-use surf_text::next_token;
 use crate::words::is_name_token;
 use surf_base::NoMemory;
+use surf_text::next_token;
 
 impl Draft {
     // Adds a site of this name, which is kept within the limit.

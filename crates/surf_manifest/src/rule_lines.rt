@@ -7,10 +7,9 @@ ghost use Rattle.surf_manifest.specs.Said.{rule_of_line};
 ghost use Rattle.surf_manifest.specs.WellFormed.{is_rule};
 
 use crate::error::ManifestError;
-use surf_text::next_token;
 use crate::rates::rate;
-use surf_text::{cut, trim};
 use crate::words::is_name_token;
+use surf_text::{cut, next_token, trim};
 
 /// The names of a rule, at one site or at two.
 #[derive(Clone, Copy, Debug)]
