@@ -2,19 +2,23 @@
 use Rattle.std.specs.Prelude.{ℕ, ◌≡◌, ◌≢◌, Bool, true, List, ◌++◌, length, map, nat_eq, Option, Some, None, IfSome}
 use Rattle.surf_logic.specs.declared.values.EvalError.{EvalError}
 use Rattle.surf_logic.specs.declared.values.EvalError.TheVariants.{Length, NoMemory}
-use Rattle.surf_logic.specs.Equations.{EquationOf, Numbered, Solves}
+use Rattle.surf_logic.specs.Equations.{EquationOf, Numbered, PartsOf, Solves}
 use Rattle.surf_logic.specs.declared.turns.CircuitError.{CircuitError}
 use Rattle.surf_logic.specs.declared.turns.CircuitError.TheVariants as errors
 use Rattle.surf_rules.specs.Names.{text_of}
 use Rattle.surf_logic.specs.Order.{Fault, DeclaredTwice, DrivenTwice, Undriven, NoOutputs, Cycle, HasFault, FirstCyclic, outputs_of, has}
 
--- one assignment of the circuit's names, and no other, has these bits at the inputs and solves the equations; each that does has these outputs
-pub record IsEval (c : Numbered) (bits answer : List Bool) : Type 0 where
-  pub assignment : ℕ → Bool
-  pub inputs : map assignment c.parts.inputs ≡ bits
-  pub solves : Solves c.parts.equations assignment
-  pub only : (e : ℕ → Bool) → map e c.parts.inputs ≡ bits → Solves c.parts.equations e → (n : ℕ) → has nat_eq (c.parts.inputs ++ outputs_of c.parts.equations) n ≡ true → e n ≡ assignment n
-  pub outputs : (e : ℕ → Bool) → map e c.parts.inputs ≡ bits → Solves c.parts.equations e → map e c.parts.outputs ≡ answer
+-- one assignment of the names, and no other, has these bits at the inputs and solves the equations; each that does has these outputs
+pub record EvalOf {N : Type 0} (eq : N → N → Bool) (p : PartsOf N) (bits answer : List Bool) : Type 0 where
+  pub assignment : N → Bool
+  pub inputs : map assignment p.inputs ≡ bits
+  pub solves : Solves p.equations assignment
+  pub only : (e : N → Bool) → map e p.inputs ≡ bits → Solves p.equations e → (n : N) → has eq (p.inputs ++ outputs_of p.equations) n ≡ true → e n ≡ assignment n
+  pub outputs : (e : N → Bool) → map e p.inputs ≡ bits → Solves p.equations e → map e p.outputs ≡ answer
+
+-- the same of the numbers of a circuit
+abbrev pub IsEval : Numbered → List Bool → List Bool → Type 0
+IsEval c bits answer = EvalOf nat_eq c.parts bits answer
 
 -- why evaluation answers nothing
 abbrev pub HasEvalFault : Numbered → List Bool → EvalError → Type 0

@@ -128,9 +128,10 @@ pub record IsCircuit (p : Numbered) : Type 0 where
   pub no_cycle : (n : ℕ) → DependsOn nat_eq p.parts.equations n n → ⊥
   pub ordered : Ordered nat_eq p.parts.inputs p.parts.equations
 
--- the same names, inputs and outputs, and the equations as the turns take them
+-- parts whose lists show no fault, with their equations as the turns take them
 pub record IsOrderOf (p c : Numbered) : Type 0 where
   pub names : c.names ≡ p.names
   pub inputs : c.parts.inputs ≡ p.parts.inputs
   pub outputs : c.parts.outputs ≡ p.parts.outputs
+  pub sound : list_fault nat_eq p.parts ≡ None
   pub turns : Turns nat_eq p.parts.inputs p.parts.equations c.parts.equations []

@@ -11,6 +11,7 @@ mod costs;
 mod cycles;
 mod equation;
 mod faults;
+mod laws;
 #[cfg(test)]
 mod tests;
 mod turns;
@@ -18,5 +19,6 @@ mod values;
 
 pub use circuit::Circuit;
 pub use equation::{Equation, Literal, Parts, Row};
+pub use laws::naming_laws;
 pub use turns::{CircuitError, order};
 pub use values::{EvalError, eval};

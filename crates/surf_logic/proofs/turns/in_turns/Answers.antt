@@ -48,5 +48,5 @@ returns c =
     let turns : Turns nat_eq p.parts.inputs p.parts.equations c.in-Ok.taken.items c.taken_of.new.rest.items = search rules in
     let t : Turns nat_eq p.parts.inputs p.parts.equations c.in-Ok.taken.items [] = subst (λ v. Turns nat_eq p.parts.inputs p.parts.equations c.in-Ok.taken.items v) left turns in
     let answer : c.of.result ≡ made = c.of.ensures in
-    let order : IsOrderOf p made = record { names = refl; inputs = refl; outputs = refl; turns = t } in
+    let order : IsOrderOf p made = record { names = refl; inputs = refl; outputs = refl; sound = subst (λ (v : Numbered). list_fault nat_eq v.parts ≡ None) (sym is) c.requires.sound; turns = t } in
     subst (λ v. IsOrderOf v c.of.result) is (subst (IsOrderOf p) (sym answer) order)
