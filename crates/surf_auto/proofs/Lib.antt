@@ -3,3 +3,4 @@ mod Rules
 mod Ranges
 mod Cells
 mod Phases
+mod Places

@@ -2,6 +2,7 @@
 use Rattle.std.proofs.Common.{◌≡◌, ℕ, zero, suc, ◌+◌, ◌*◌, ◌<◌, ◌≤◌, max, Bool, true, false, if◌then◌else◌, ◌==◌, List, [], ◌∷◌, ◌++◌, length, get_or, take, slice_index_or, refl, sym, ◌∙◌, ap, arith}
 use Rattle.std.proofs.Math.Nat.{mul-le-mul_right, le-max_left, le-max_right}
 use Rattle.std.proofs.lemmas.List.Recursion.{max_least}
+use Rattle.std.proofs.lemmas.Grind.{get_or_default_zero}
 use Rattle.std.proofs.lemmas.List.{take_more}
 use Rattle.surf_auto.specs.Locals.{IsLocal, is_degree}
 use Rattle.surf_auto.specs.Counts.{Counts, count_rule}
@@ -37,6 +38,14 @@ weight_below (w ∷ ws) (suc s) h = let b = weight_below ws s (omega arith) in l
 
 pub light : (T : Table) → IsTable T → greatest T.weights ≤ 255
 light T is = max_least greatest (λ x. x) refl (λ x xs. refl) T.weights 0 255 is.light
+
+-- any weight that is read is light
+pub weight_read : (T : Table) → IsTable T → (s weight : ℕ) → weight ≡ get_or T.weights s weight → s < length T.weights → weight ≤ 255
+weight_read T is s weight e h =
+    let g = light T is in
+    let w = weight_below T.weights s h in
+    let same : weight ≡ get_or T.weights s 0 = e ∙ get_or_default_zero T.weights s weight h in
+    omega arith
 
 pub few_sums : (r g : ℕ) → r ≤ 6 → g ≤ 255 → r * g ≤ 1530
 few_sums r g h k = let a : r * g ≤ 6 * g = mul-le-mul_right g h in omega arith

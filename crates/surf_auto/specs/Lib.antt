@@ -3,4 +3,5 @@ pub mod Locals
 pub mod Counts
 pub mod Tables
 pub mod Sync
+pub mod Places
 pub mod Laws

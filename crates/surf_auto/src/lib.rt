@@ -1,9 +1,10 @@
 //! Automata: local rules, their tables, and what all cells show after a step.
 //!
-//! [`step`] takes one step of an [`Automaton`], in which all cells take their next state at once. A
-//! local rule gathers the states of the neighbours in the order of directions, and every answer of
-//! a [`Local`] is in range. [`local_laws`] says that [`CountLocal`] so counts live neighbours, that
-//! [`TableLocal`] sums weights, and that the steps are the usual ones.
+//! [`step`] takes one step of an [`Automaton`], in which all cells take their next state at once, and
+//! [`Automaton::advance`] takes many. A local rule gathers the states of the neighbours in the order
+//! of directions, and every answer of a [`Local`] is in range. [`local_laws`] says that
+//! [`CountLocal`] so counts live neighbours, that [`TableLocal`] sums weights, and that the steps are
+//! the usual ones.
 #![tactic(auto)]
 
 mod automaton;

@@ -1,12 +1,12 @@
 // One phase of a step, in which all cells take their next state at once.
-ghost use Rattle.std.specs.Prelude.{◌≡◌, ◌*◌, ◌<◌, ◌≤◌, IfOk, length, map, slice_index};
+ghost use Rattle.std.specs.Prelude.{◌≡◌, ℕ, ◌+◌, ◌*◌, ◌<◌, ◌≤◌, length, map, slice_index};
 ghost use Rattle.surf_lattice.specs.Grids.{IsInside, degree, neighbour, place, site_at, sites};
 ghost use Rattle.surf_auto.specs.Locals.{gathered};
+ghost use Rattle.surf_auto.specs.Places.{IsInner, IsNextBelow, next_by_places};
 ghost use Rattle.surf_auto.specs.Sync.{IsUniverse, StandsIn, next_state, seen, seen_at, state_at, sync, universe};
 
 use crate::Local;
-use std::alloc::Global;
-use surf_base::NoMemory;
+use std::mem;
 use surf_lattice::{Lattice, Site};
 
 // The state in a direction: that of the neighbour, or the edge state where there is none.
@@ -69,42 +69,112 @@ fn next_at<G: Lattice, L: Local>(
     local.finish(phase, cells[place], acc)
 }
 
-// The cells after a phase.
-fn cells_after<G: Lattice, L: Local>(
-    alloc: Global,
+// The same where the neighbours stand at fixed distances from the place.
+fn next_inside<L: Local>(local: &L, phase: u32, cells: &[u32], width: usize, place: usize) -> u32
+    requires phase { phase < (L.rule local.now).phases }
+    requires inner { IsInner width (length cells.now) place }
+    requires states { (i : ℕ) → i < length cells.now → slice_index cells.now i < (L.rule local.now).states phase }
+    ensures { result ≡ next_by_places (L.rule local.now) phase cells.now width place }
+{
+    let is_six = local.degree() == 6;
+    let mut acc = local.start(phase);
+    acc = local.add(phase, acc, 0, cells[place - 1]);
+    acc = local.add(phase, acc, 1, cells[place + 1]);
+    acc = local.add(phase, acc, 2, cells[place - width]);
+    acc = local.add(phase, acc, 3, cells[place + width]);
+    if is_six {
+        acc = local.add(phase, acc, 4, cells[place - width - 1]);
+        acc = local.add(phase, acc, 5, cells[place + width + 1]);
+    }
+    local.finish(phase, cells[place], acc)
+}
+
+// Writes the next states of one row. Those of the rows above are written.
+fn write_row<G: Lattice, L: Local>(
     grid: &G,
     local: &L,
     phase: u32,
     edge: u32,
     cells: &[u32],
-) -> Result<Vec<u32>, NoMemory>
-    requires { StandsIn (universe (G.grid grid.now) (L.rule local.now) edge cells.now) phase }
-    ensures { let U = universe (G.grid grid.now) (L.rule local.now) edge cells.now in
-        IfOk result (λ v. v.items ≡ map (next_state U phase (state_at U)) (sites (G.grid grid.now))) }
+    row: usize,
+    next: &mut [u32],
+)
+    requires stands { StandsIn (universe (G.grid grid.now) (L.rule local.now) edge cells.now) phase }
+    requires row { row < (G.grid grid.now).height }
+    requires room { length next.old ≡ length cells.now }
+    requires above { IsNextBelow (universe (G.grid grid.now) (L.rule local.now) edge cells.now) phase next.old (row * (G.grid grid.now).width) }
+    ensures { IsNextBelow (universe (G.grid grid.now) (L.rule local.now) edge cells.now) phase next.new ((row + 1) * (G.grid grid.now).width) }
 {
-    let mut next = Vec::with_capacity(alloc, cells.len()).map_err(|_| NoMemory)?;
-    for place in 0..cells.len() {
-        let state = next_at(grid, local, phase, edge, cells, place);
-        next.push(state).map_err(|_| NoMemory)?;
+    let width = grid.width() as usize;
+    let height = grid.height() as usize;
+    let first = row * width;
+    let is_between = 0 < row && row + 1 < height;
+    for x in 0..width {
+        let place = first + x;
+        next[place] = if is_between && 0 < x && x + 1 < width {
+            next_inside(local, phase, cells, width, place)
+        } else {
+            next_at(grid, local, phase, edge, cells, place)
+        };
     }
-    Ok(next)
 }
 
-/// The cells after all phases of a step.
-pub fn cells_next<G: Lattice, L: Local>(
-    alloc: Global,
+// Writes the cells after a phase.
+fn write_phase<G: Lattice, L: Local>(
+    grid: &G,
+    local: &L,
+    phase: u32,
+    edge: u32,
+    cells: &[u32],
+    next: &mut [u32],
+)
+    requires stands { StandsIn (universe (G.grid grid.now) (L.rule local.now) edge cells.now) phase }
+    requires room { length next.old ≡ length cells.now }
+    ensures { let U = universe (G.grid grid.now) (L.rule local.now) edge cells.now in
+        next.new ≡ map (next_state U phase (state_at U)) (sites (G.grid grid.now)) }
+{
+    let height = grid.height() as usize;
+    for row in 0..height {
+        write_row(grid, local, phase, edge, cells, row, next);
+    }
+}
+
+/// Takes all phases of a step. The spare cells are as many as the cells.
+pub fn take_step<G: Lattice, L: Local>(
     grid: &G,
     local: &L,
     edge: u32,
-    cells: &[u32],
-) -> Result<Vec<u32>, NoMemory>
-    requires { IsUniverse (universe (G.grid grid.now) (L.rule local.now) edge cells.now) }
-    ensures { let U = universe (G.grid grid.now) (L.rule local.now) edge cells.now in
-        IfOk result (λ v. v.items ≡ map (sync U 1) (sites (G.grid grid.now))) }
+    cells: &mut Vec<u32>,
+    spare: &mut Vec<u32>,
+)
+    requires stands { IsUniverse (universe (G.grid grid.now) (L.rule local.now) edge cells.old.items) }
+    requires room { length spare.old.items ≡ length cells.old.items }
+    ensures cells { let U = universe (G.grid grid.now) (L.rule local.now) edge cells.old.items in
+        cells.new.items ≡ map (sync U 1) (sites (G.grid grid.now)) }
+    ensures room { length spare.new.items ≡ length cells.new.items }
 {
-    let mut next = cells_after(alloc, grid, local, 0, edge, cells)?;
-    for phase in 1..local.phases() {
-        next = cells_after(alloc, grid, local, phase, edge, &next)?;
+    for phase in 0..local.phases() {
+        write_phase(grid, local, phase, edge, cells, spare);
+        mem::swap(cells, spare);
     }
-    Ok(next)
+}
+
+/// Takes so many steps. The spare cells are as many as the cells.
+pub fn take_steps<G: Lattice, L: Local>(
+    grid: &G,
+    local: &L,
+    edge: u32,
+    times: u32,
+    cells: &mut Vec<u32>,
+    spare: &mut Vec<u32>,
+)
+    requires stands { IsUniverse (universe (G.grid grid.now) (L.rule local.now) edge cells.old.items) }
+    requires room { length spare.old.items ≡ length cells.old.items }
+    ensures cells { let U = universe (G.grid grid.now) (L.rule local.now) edge cells.old.items in
+        cells.new.items ≡ map (sync U times) (sites (G.grid grid.now)) }
+    ensures stands { IsUniverse (universe (G.grid grid.now) (L.rule local.now) edge cells.new.items) }
+{
+    for _step in 0..times {
+        take_step(grid, local, edge, cells, spare);
+    }
 }

@@ -1,7 +1,6 @@
-use Rattle.std.proofs.Common.{arith, ◌+◌, ◌*◌, ◌<◌, ◌≡◌, refl, length, get_or, sym, subst, ◌∙◌}
-use Rattle.std.proofs.lemmas.Grind.{get_or_default_zero}
+use Rattle.std.proofs.Common.{arith, ◌+◌, ◌*◌, ◌<◌, refl, length, sym, subst}
 use Rattle.surf_auto.specs.Tables.{Table, greatest}
-use Rattle.surf_auto.proofs.Ranges.{table, acc_small, light, weight_below}
+use Rattle.surf_auto.proofs.Ranges.{table, acc_small, weight_read}
 use Rattle.surf_auto.proofs.table.TableLocalLocal.add.Goals as goal
 
 pub overflow_add-result : goal.overflow_add-result
@@ -13,7 +12,5 @@ overflow_add-result c =
     let a = subst (λ (v : Table). c.args.acc < c.args._direction * greatest v.weights + 1) (sym c.self.view_is) c.requires.acc in
     let s = subst (λ (v : Table). c.args.state < length v.weights) (sym c.self.view_is) c.requires.state in
     let m = acc_small T is c.args._direction (greatest t.weights.items) refl (omega arith) in
-    let g = light T is in
-    let w = weight_below t.weights.items c.args.state s in
-    let e : c.index.result.now ≡ get_or t.weights.items c.args.state 0 = c.index.ensures ∙ get_or_default_zero t.weights.items _ _ s in
+    let w = weight_read T is _ c.index.result.now c.index.ensures (omega arith) in
     omega arith
