@@ -1,0 +1,11 @@
+-- Headers and rules by what the reader found.
+use Rattle.surf_rle.specs.declared.header.Header.{Header}
+use Rattle.surf_rle.specs.declared.rule.RuleText.{RuleText}
+use Rattle.surf_rle.specs.Headers as headers
+use Rattle.surf_rle.specs.RuleTexts as rules
+
+abbrev pub header_by : Header → headers.Header
+header_by h = record { width = h.width; height = h.height; rule = h.rule.now }
+
+abbrev pub rule_by : RuleText → rules.RuleText
+rule_by r = record { neighbours = r.neighbours; birth = r.birth.now; survival = r.survival.now }

@@ -1,0 +1,77 @@
+// The cells of a pattern.
+ghost use Rattle.std.specs.Prelude.{◌≡◌, ◌+◌, ◌<◌, ◌≤◌, ◌^◌, Err, IfErr, IfOk, None, Ok, Some, length};
+ghost use Rattle.surf_rle.specs.Drawings.{IsSheet, rest_of, sheet_grid};
+ghost use Rattle.surf_rle.specs.Patterns.{cells_read, marks_from};
+ghost use Rattle.surf_rle.specs.Rle.{Refuses, box_fault};
+ghost use Rattle.surf_text.specs.Bytes.{lines_of};
+
+use crate::lines::is_comment_line;
+use crate::sheet::{Pen, Sheet, draw_line};
+use std::alloc::Global;
+use surf_auto::SourceError;
+use surf_text::{first_line, trim};
+
+/// The most sites of a universe.
+const SITE_LIMIT: u128 = 1_000_000;
+
+/// Refuses a box that is empty or, with its margin, too large.
+pub fn check_box(sheet: &Sheet) -> Result<(), SourceError>
+    ensures ok { IfOk result (λ _. box_fault sheet.now.margin sheet.now.width sheet.now.height ≡ None) }
+    ensures refused { IfErr result (λ f. box_fault sheet.now.margin sheet.now.width sheet.now.height ≡ Some f) }
+{
+    if sheet.width == 0 || sheet.height == 0 {
+        return Err(SourceError::EmptyGrid);
+    }
+    let sites = u128::from(sheet.full_width()) * u128::from(sheet.full_height());
+    if sites > SITE_LIMIT {
+        return Err(SourceError::GridTooLarge(sites));
+    }
+    Ok(())
+}
+
+// Draws the lines of a text up to the pattern's end, the first of which is the line `number`.
+fn draw_lines(sheet: Sheet, cells: &mut [u32], number: u64, text: &[u8]) -> Result<(), SourceError>
+    requires sheet { IsSheet sheet cells.old }
+    requires within { length text.now ≤ 2147483648 }
+    requires counted { number + length text.now < 2 ^ 64 }
+    ensures ok { IfOk result (λ _. rest_of sheet (record { row = 0; column = 0 }) cells.old (marks_from number (lines_of text.now)) ≡ Ok cells.new) }
+    ensures refused { IfErr result (λ f. rest_of sheet (record { row = 0; column = 0 }) cells.old (marks_from number (lines_of text.now)) ≡ Err f) }
+{
+    let mut pen = Pen { row: 0, column: 0 };
+    let mut rest = text;
+    let mut number = number;
+    while !rest.is_empty() {
+        let (line, after) = first_line(rest);
+        if !is_comment_line(trim(line)) {
+            match draw_line(sheet, pen, cells, number, line)? {
+                Some(next) => pen = next,
+                None => return Ok(()),
+            }
+        }
+        rest = after;
+        number += 1;
+    }
+    Err(SourceError::Unclosed)
+}
+
+/// The cells of a pattern, whose first line is the line `number`.
+pub fn read_cells(
+    alloc: Global,
+    sheet: Sheet,
+    number: u64,
+    text: &[u8],
+) -> Result<Vec<u32>, SourceError>
+    requires sheet { box_fault sheet.margin sheet.width sheet.height ≡ None }
+    requires small { sheet.margin ≤ 1000 }
+    requires within { length text.now ≤ 2147483648 }
+    requires counted { number + length text.now < 2 ^ 64 }
+    ensures ok { IfOk result (λ v. cells_read sheet.margin (sheet_grid sheet) sheet.width sheet.height (marks_from number (lines_of text.now)) ≡ Ok v.items) }
+    ensures refused { IfErr result (λ f. Refuses (cells_read sheet.margin (sheet_grid sheet) sheet.width sheet.height (marks_from number (lines_of text.now))) f) }
+{
+    let sites = sheet.full_width() * sheet.full_height();
+    let mut cells = vec![in alloc; 0u32; sites as usize].map_err(|_| SourceError::NoMemory)?;
+    match draw_lines(sheet, &mut cells, number, text) {
+        Ok(()) => Ok(cells),
+        Err(fault) => Err(fault),
+    }
+}

@@ -1,0 +1,17 @@
+//! Patterns of two-state automata in RLE, read in one pass.
+//!
+//! `rle_of` in specs/Rle.antt says what a text means: the universe of an automaton, or the text's
+//! first fault. [`read_rle`] answers exactly that, and want of memory alone besides.
+#![tactic(auto)]
+
+mod cells;
+mod header;
+mod item;
+mod lines;
+mod reader;
+mod rule;
+mod sheet;
+#[cfg(test)]
+mod tests;
+
+pub use reader::read_rle;
