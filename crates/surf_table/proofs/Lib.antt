@@ -1,0 +1,9 @@
+pub mod Worked
+pub mod NumberLemmas
+pub mod Refusals
+pub mod Rows
+pub mod Sizes
+pub mod Facts
+pub mod RowFacts
+pub mod TableFacts
+pub mod Chains

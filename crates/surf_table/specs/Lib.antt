@@ -1,0 +1,4 @@
+pub mod TableLines
+pub mod TableTexts
+pub mod Readings
+pub mod Parts
