@@ -1,0 +1,10 @@
+pub mod Logical
+pub mod Lines
+pub mod Covers
+pub mod Grammar
+pub mod Blifs
+pub mod Kinds
+pub mod Steps
+pub mod Drafts
+pub mod Answers
+pub mod Evals
