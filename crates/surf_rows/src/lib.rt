@@ -4,9 +4,13 @@
 #![tactic(auto)]
 
 #[cfg(test)]
+mod automata;
+#[cfg(test)]
 mod calling;
 #[cfg(test)]
 mod changes;
+#[cfg(test)]
+mod circuits;
 #[cfg(test)]
 mod faults;
 #[cfg(test)]

@@ -1,5 +1,5 @@
 -- How a job ends, and which cause each answer then has.
-use Rattle.std.proofs.Common.{ℕ, ◌≡◌, ◌≤◌, ◌<◌, List, length, Option, Some, None, Result, Ok, Err, IfSome, IfOk, IsOk, is_ok, OnOk, OnErr, refl, sym, ◌∙◌, ap, subst, inl, inr, ◌⊎◌, arith}
+use Rattle.std.proofs.Common.{ℕ, ◌≡◌, ◌≤◌, ◌<◌, Bool, List, length, Option, Some, None, Result, Ok, Err, IfSome, IfOk, IsOk, is_ok, OnOk, OnErr, refl, sym, ◌∙◌, ap, subst, inl, inr, ◌⊎◌, arith}
 use Rattle.std.proofs.lemmas.Bool.{false≢true}
 use Rattle.std.specs.Io.KnownBytes.{Appends}
 use Rattle.rand_core.specs.Stream.{Stream}
@@ -11,16 +11,21 @@ use Rattle.surf_pick.specs.Draws.{seeded, words_of}
 use Rattle.surf_sim.specs.Simulations.{Simulation}
 use Rattle.surf_manifest.specs.Grammar.{ManifestText, manifest_of}
 use Rattle.surf_manifest.specs.declared.error.ManifestError.{ManifestError}
-use Rattle.surf_top.specs.declared.job.Job.{Job}
-use Rattle.surf_top.specs.declared.job.Job.TheVariants.{Run, Format, Replay}
+use Rattle.surf_top.specs.Jobs.{Job, Run, Format, Eval, Step, Replay}
 use Rattle.surf_world.specs.declared.event.Event.{Event}
 use Rattle.surf_trace.proofs.Runs.{run_not_bad}
+use Rattle.surf_blif.specs.declared.error.BlifError.{BlifError}
+use Rattle.surf_blif.specs.declared.error.BlifError.TheVariants as blifs
+use Rattle.surf_blif.specs.Grammar.{Unsupported, BadLine, BadCover, MixedCover}
+use Rattle.surf_blif.specs.Blifs.{InText, TooLarge, InCircuit}
+use Rattle.surf_top.specs.Values.{IsAccepted, HasValues}
 use Rattle.surf_top.specs.declared.status.Refusal.{Refusal}
+use Rattle.surf_top.specs.declared.status.Refusal.TheVariants.{Manifest, Trace, Blif, Bits, Source}
 use Rattle.surf_top.specs.declared.status.Status.{Status}
 use Rattle.surf_top.specs.declared.status.Status.TheVariants.{Done, Refused, Usage, NotEnabled, ReadFault, WriteFault, NoMemory, TooLong}
 use Rattle.surf_top.specs.Answers.{Ends, HasCauses, IsComplete, PrintsRun, ReadWhole, WroteWhole, WroteFront, limit}
 use Rattle.surf_top.specs.Commands.{IsReady, EndsJob}
-use Rattle.surf_top.specs.Outputs.{IsText, HasText, IsRefused, FindsBad, IsBadAt, IsValid, printed_run, replay_input, Shows, ShowsOf}
+use Rattle.surf_top.specs.Outputs.{IsText, HasText, IsRefused, FindsBad, IsBadAt, IsValid, IsBlifRefused, IsEvalRefused, printed_run, replay_input, Shows, ShowsOf}
 use Rattle.surf_top.specs.Prints.{placed_text}
 use Rattle.surf_top.specs.Runs.{run_text, ShowsRun}
 use Rattle.surf_top.proofs.Shown.{numbered_text, numbered_shows}
@@ -75,10 +80,29 @@ each (Some x) P Q h p = h x p
 abbrev IsOver : Job → Status → List ℕ → Type 0
 IsOver job s input = length input ≤ limit → HasText job input → (s ≡ Done) ⊎ (s ≡ NoMemory)
 
+-- a text that is refused has a fault
+no_fault : (input : List ℕ) (e : BlifError) → IsBlifRefused input e → IsAccepted input → ⊥
+no_fault input (blifs.Unsupported n t) is ok = ok (InText (Unsupported n t)) is.0
+no_fault input (blifs.BadLine n) is ok = ok (InText (BadLine n)) is.0
+no_fault input (blifs.BadCover n) is ok = ok (InText (BadCover n)) is.0
+no_fault input (blifs.MixedCover n) is ok = ok (InText (MixedCover n)) is.0
+no_fault input (blifs.Circuit e) is ok = ok (InCircuit (is.0).0) (is.0).2
+no_fault input (blifs.TooLarge n) is ok = ok (TooLarge n) is.0
+no_fault input blifs.NoMemory is ok = is.1 refl
+
+no_values : (bits : List Bool) (input : List ℕ) (r : Refusal) → IsEvalRefused bits input r → HasValues bits input → ⊥
+no_values bits input (Blif e) is ok = no_fault input e is ok.accepted
+no_values bits input (Bits found wanted) is ok = is.differ (is.bits_are ∙ ok.enough ∙ sym is.inputs_are)
+no_values bits input (Manifest e) is ok = is
+no_values bits input (Trace e) is ok = is
+no_values bits input (Source e) is ok = is
+
 -- an input that is refused has no text, and neither has one with an event that is not enabled
 refused_none : (job : Job) (input : List ℕ) (r : Refusal) → IsRefused job input r → HasText job input → ⊥
 refused_none (Run seed count) input r is ok = false≢true (sym (ap is_ok is) ∙ ok)
 refused_none Format input r is ok = false≢true (sym (ap is_ok is) ∙ ok)
+refused_none (Eval bits) input r is ok = no_values bits input r is ok
+refused_none (Step times) input r is ok = false≢true (sym (ap is_ok is) ∙ ok)
 refused_none Replay input r is ok = subst (λ (p : Result (ManifestText × List Event) Refusal). IsValid p) is ok
 
 valid_not_bad : (p : Result (ManifestText × List Event) Refusal) (k : ℕ) → IsBadAt p k → IsValid p → ⊥
@@ -88,6 +112,8 @@ valid_not_bad (Err r) k bad run = run
 bad_none : (job : Job) (input : List ℕ) (k : ℕ) → FindsBad job input k → HasText job input → ⊥
 bad_none (Run seed count) input k bad ok = bad
 bad_none Format input k bad ok = bad
+bad_none (Eval bits) input k bad ok = bad
+bad_none (Step times) input k bad ok = bad
 bad_none Replay input k bad ok = valid_not_bad (replay_input input) k bad ok
 
 -- the causes leave only Done and want of memory where nothing else can have come
@@ -112,6 +138,8 @@ wrote_run count (Err f) text old new shows whole = absurd shows
 pub prints_run : (o : Option Job) (e : Ends) (s : Status) → HasCauses o e s → PrintsRun o e s
 prints_run None e s causes = tt
 prints_run (Some Format) e s causes = tt
+prints_run (Some (Eval bits)) e s causes = tt
+prints_run (Some (Step times)) e s causes = tt
 prints_run (Some Replay) e s causes = tt
 prints_run (Some (Run seed count)) e Done causes = λ done.
     each e.left_before (λ input. (length input ≤ limit) × WroteWhole (Run seed count) input e.written_before e.written_after)

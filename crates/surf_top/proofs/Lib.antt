@@ -1,7 +1,9 @@
 pub mod Emitting
 pub mod Simulated
 pub mod Rows
-pub mod Words
+pub mod LastWords
 pub mod Shown
 pub mod Ends
 pub mod Replayed
+pub mod Valued
+pub mod Stepped

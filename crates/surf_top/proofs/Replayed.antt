@@ -17,7 +17,7 @@ use Rattle.surf_manifest.specs.declared.error.ManifestError.{ManifestError}
 use Rattle.surf_trace.specs.Replays.{FirstBad}
 use Rattle.surf_trace.specs.Splits.{before_trace}
 use Rattle.surf_trace.specs.TraceTexts.{trace_of}
-use Rattle.surf_top.specs.declared.job.Job.TheVariants.{Replay}
+use Rattle.surf_top.specs.Jobs.{Replay}
 use Rattle.surf_top.specs.declared.status.Refusal.{Refusal}
 use Rattle.surf_top.specs.declared.status.Status.TheVariants.{Done, WriteFault, NotEnabled}
 use Rattle.surf_top.specs.Commands.{EndsJob}

@@ -7,8 +7,7 @@ use Rattle.surf_manifest.specs.Grammar.{manifest_of}
 use Rattle.surf_top.specs.declared.status.Refusal.{Refusal}
 use Rattle.surf_top.specs.declared.status.Status.{Status}
 use Rattle.surf_top.specs.declared.status.Status.TheVariants.{Done, Refused, Usage, NotEnabled, ReadFault, WriteFault, NoMemory, TooLong}
-use Rattle.surf_top.specs.declared.job.Job.{Job}
-use Rattle.surf_top.specs.declared.job.Job.TheVariants.{Run, Format, Replay}
+use Rattle.surf_top.specs.Jobs.{Job, Run, Format, Eval, Step, Replay}
 use Rattle.surf_top.specs.Outputs.{IsText, HasText, IsRefused, FindsBad, Shows}
 use Rattle.surf_top.specs.Runs.{ShowsRun}
 
@@ -74,6 +73,8 @@ IsComplete (Some job) e status =
 abbrev pub PrintsRun : Option Job → Ends → Status → Type 0
 PrintsRun None e status = Unit {0}
 PrintsRun (Some Format) e status = Unit {0}
+PrintsRun (Some (Eval bits)) e status = Unit {0}
+PrintsRun (Some (Step times)) e status = Unit {0}
 PrintsRun (Some Replay) e status = Unit {0}
 PrintsRun (Some (Run seed count)) e status =
     status ≡ Done

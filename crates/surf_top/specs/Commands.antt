@@ -11,8 +11,14 @@ use Rattle.surf_manifest.specs.declared.error.ManifestError.{ManifestError}
 use Rattle.surf_manifest.specs.declared.error.ManifestError.TheVariants as faults
 use Rattle.surf_trace.specs.declared.error.TraceError.{TraceError}
 use Rattle.surf_trace.specs.declared.error.TraceError.TheVariants as traces
-use Rattle.surf_top.specs.declared.job.Job.{Job}
-use Rattle.surf_top.specs.declared.status.Refusal.TheVariants.{Manifest, Trace}
+use Rattle.surf_top.specs.Jobs.{Job}
+use Rattle.surf_blif.specs.declared.error.BlifError.{BlifError}
+use Rattle.surf_blif.specs.declared.error.BlifError.TheVariants as blifs
+use Rattle.surf_logic.specs.declared.values.EvalError.{EvalError}
+use Rattle.surf_logic.specs.declared.values.EvalError.TheVariants as evals
+use Rattle.surf_auto.specs.declared.error.SourceError.{SourceError}
+use Rattle.surf_auto.specs.declared.error.SourceError.TheVariants as sources
+use Rattle.surf_top.specs.declared.status.Refusal.TheVariants.{Manifest, Trace, Blif, Bits, Source}
 use Rattle.surf_top.specs.Outputs.{IsRefused, FindsBad}
 use Rattle.surf_top.specs.Answers.{WroteWhole, WroteFront}
 
@@ -54,3 +60,29 @@ answer_to_trace traces.NoTrace = Refused (Trace traces.NoTrace)
 answer_to_trace (traces.BadTrace n) = Refused (Trace (traces.BadTrace n))
 answer_to_trace (traces.Unclosed n) = Refused (Trace (traces.Unclosed n))
 answer_to_trace traces.NoMemory = NoMemory
+
+abbrev pub answer_to_blif : BlifError → Status
+answer_to_blif (blifs.Unsupported n t) = Refused (Blif (blifs.Unsupported n t))
+answer_to_blif (blifs.BadLine n) = Refused (Blif (blifs.BadLine n))
+answer_to_blif (blifs.BadCover n) = Refused (Blif (blifs.BadCover n))
+answer_to_blif (blifs.MixedCover n) = Refused (Blif (blifs.MixedCover n))
+answer_to_blif (blifs.Circuit e) = Refused (Blif (blifs.Circuit e))
+answer_to_blif (blifs.TooLarge n) = Refused (Blif (blifs.TooLarge n))
+answer_to_blif blifs.NoMemory = NoMemory
+
+abbrev pub answer_to_bits : EvalError → Status
+answer_to_bits (evals.Length found wanted) = Refused (Bits found wanted)
+answer_to_bits evals.NoMemory = NoMemory
+
+abbrev pub answer_to_source : SourceError → Status
+answer_to_source (sources.BadHeader n) = Refused (Source (sources.BadHeader n))
+answer_to_source (sources.RuleForm n) = Refused (Source (sources.RuleForm n))
+answer_to_source (sources.Moore n) = Refused (Source (sources.Moore n))
+answer_to_source sources.EmptyGrid = Refused (Source sources.EmptyGrid)
+answer_to_source (sources.GridTooLarge n) = Refused (Source (sources.GridTooLarge n))
+answer_to_source (sources.BadItem n) = Refused (Source (sources.BadItem n))
+answer_to_source (sources.OutOfBox n) = Refused (Source (sources.OutOfBox n))
+answer_to_source (sources.BadTable n) = Refused (Source (sources.BadTable n))
+answer_to_source sources.Unclosed = Refused (Source sources.Unclosed)
+answer_to_source (sources.TooManyRules n) = Refused (Source (sources.TooManyRules n))
+answer_to_source sources.NoMemory = NoMemory

@@ -1,4 +1,7 @@
+pub mod Jobs
 pub mod Runs
+pub mod Values
+pub mod Generations
 pub mod Outputs
 pub mod Answers
 pub mod Notes

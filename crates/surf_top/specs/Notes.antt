@@ -10,8 +10,16 @@ use Rattle.surf_manifest.specs.declared.error.Block.{Block}
 use Rattle.surf_manifest.specs.declared.error.Block.TheVariants as blocks
 use Rattle.surf_trace.specs.declared.error.TraceError.{TraceError}
 use Rattle.surf_trace.specs.declared.error.TraceError.TheVariants as traces
+use Rattle.surf_logic.specs.declared.turns.CircuitError.{CircuitError}
+use Rattle.surf_logic.specs.declared.turns.CircuitError.TheVariants as circuits
+use Rattle.surf_blif.specs.declared.error.BlifError.{BlifError}
+use Rattle.surf_blif.specs.declared.error.BlifError.TheVariants as blifs
+use Rattle.surf_auto.specs.declared.error.SourceError.{SourceError}
+use Rattle.surf_auto.specs.declared.error.SourceError.TheVariants as sources
+use Rattle.surf_top.specs.declared.words.Tail.{Tail}
+use Rattle.surf_top.specs.declared.words.Tail.TheVariants as tails
 use Rattle.surf_top.specs.declared.status.Refusal.{Refusal}
-use Rattle.surf_top.specs.declared.status.Refusal.TheVariants.{Manifest, Trace}
+use Rattle.surf_top.specs.declared.status.Refusal.TheVariants.{Manifest, Trace, Blif, Bits, Source}
 use Rattle.surf_top.specs.declared.status.Status.{Status}
 use Rattle.surf_top.specs.declared.status.Status.TheVariants.{Done, Refused, Usage, NotEnabled, ReadFault, WriteFault, NoMemory, TooLong}
 
@@ -26,14 +34,18 @@ code_of WriteFault = 5
 code_of NoMemory = 6
 code_of TooLong = 7
 
--- a blank and a number, if there is one
-abbrev pub number_text : Option ℕ → List ℕ
-number_text None = []
-number_text (Some n) = 32 ∷ decimal n
+-- a number or a text behind a blank
+abbrev pub behind : List ℕ → List ℕ
+behind text = 32 ∷ text
 
--- words, and the number behind them if there is one
-abbrev pub numbered : List ℕ → Option ℕ → List ℕ
-numbered words n = words ++ number_text n
+-- what follows the words of a refusal
+abbrev pub tail_text : Tail → List ℕ
+tail_text tails.Nothing = []
+tail_text (tails.Line n) = behind (decimal n)
+tail_text (tails.Number n) = behind (decimal n)
+tail_text (tails.Named text) = behind text.now
+tail_text (tails.LineAndName n text) = behind (decimal n) ++ behind text.now
+tail_text (tails.Numbers a b) = behind (decimal a) ++ behind (decimal b)
 
 abbrev pub block_words : Block → List ℕ
 block_words blocks.Rules = codes "missing-block rules"
@@ -41,31 +53,67 @@ block_words blocks.State = codes "missing-block state"
 
 -- the words of a manifest's fault; want of memory is never a refusal
 abbrev pub fault_words : ManifestError → List ℕ
-fault_words (faults.BadLine n) = numbered (codes "bad-line") (Some n)
-fault_words (faults.BadRule n) = numbered (codes "bad-rule") (Some n)
-fault_words (faults.BadRate n) = numbered (codes "bad-rate") (Some n)
-fault_words (faults.Ragged n) = numbered (codes "ragged") (Some n)
-fault_words (faults.Include n) = numbered (codes "include") (Some n)
-fault_words (faults.BlockTwice n) = numbered (codes "block-twice") (Some n)
-fault_words (faults.BadOption n) = numbered (codes "bad-option") (Some n)
-fault_words (faults.Unclosed n) = numbered (codes "unclosed") (Some n)
-fault_words (faults.MissingBlock b) = numbered (block_words b) None
-fault_words faults.NoSites = numbered (codes "no-sites") None
-fault_words (faults.TooManyRules n) = numbered (codes "too-many-rules") (Some n)
-fault_words (faults.TooManySites n) = numbered (codes "too-many-sites") (Some n)
-fault_words faults.WrapSize = numbered (codes "wrap-size") None
-fault_words faults.NoMemory = numbered (codes "no-memory") None
+fault_words (faults.BadLine n) = codes "bad-line" ++ behind (decimal n)
+fault_words (faults.BadRule n) = codes "bad-rule" ++ behind (decimal n)
+fault_words (faults.BadRate n) = codes "bad-rate" ++ behind (decimal n)
+fault_words (faults.Ragged n) = codes "ragged" ++ behind (decimal n)
+fault_words (faults.Include n) = codes "include" ++ behind (decimal n)
+fault_words (faults.BlockTwice n) = codes "block-twice" ++ behind (decimal n)
+fault_words (faults.BadOption n) = codes "bad-option" ++ behind (decimal n)
+fault_words (faults.Unclosed n) = codes "unclosed" ++ behind (decimal n)
+fault_words (faults.MissingBlock b) = block_words b ++ []
+fault_words faults.NoSites = codes "no-sites" ++ []
+fault_words (faults.TooManyRules n) = codes "too-many-rules" ++ behind (decimal n)
+fault_words (faults.TooManySites n) = codes "too-many-sites" ++ behind (decimal n)
+fault_words faults.WrapSize = codes "wrap-size" ++ []
+fault_words faults.NoMemory = codes "no-memory" ++ []
 
 -- the words of a trace's fault; want of memory is never a refusal
 abbrev pub trace_words : TraceError → List ℕ
-trace_words traces.NoTrace = numbered (codes "no-trace") None
-trace_words (traces.BadTrace n) = numbered (codes "bad-trace") (Some n)
-trace_words (traces.Unclosed n) = numbered (codes "unclosed") (Some n)
-trace_words traces.NoMemory = numbered (codes "no-memory") None
+trace_words traces.NoTrace = codes "no-trace" ++ []
+trace_words (traces.BadTrace n) = codes "bad-trace" ++ behind (decimal n)
+trace_words (traces.Unclosed n) = codes "unclosed" ++ behind (decimal n)
+trace_words traces.NoMemory = codes "no-memory" ++ []
+
+-- the words of what is wrong with equations; want of memory is never a refusal
+abbrev pub circuit_words : CircuitError → List ℕ
+circuit_words (circuits.DeclaredTwice t) = codes "declared-twice" ++ behind t
+circuit_words (circuits.DrivenTwice t) = codes "driven-twice" ++ behind t
+circuit_words (circuits.Undriven t) = codes "undriven" ++ behind t
+circuit_words circuits.NoOutputs = codes "no-outputs" ++ []
+circuit_words (circuits.Cycle t) = codes "cycle" ++ behind t
+circuit_words circuits.NoMemory = codes "no-memory" ++ []
+
+-- the words of a circuit's fault; want of memory is never a refusal
+abbrev pub blif_words : BlifError → List ℕ
+blif_words (blifs.Unsupported n t) = codes "unsupported" ++ (behind (decimal n) ++ behind t)
+blif_words (blifs.BadLine n) = codes "bad-line" ++ behind (decimal n)
+blif_words (blifs.BadCover n) = codes "bad-cover" ++ behind (decimal n)
+blif_words (blifs.MixedCover n) = codes "mixed-cover" ++ behind (decimal n)
+blif_words (blifs.Circuit e) = circuit_words e
+blif_words (blifs.TooLarge n) = codes "circuit-too-large" ++ behind (decimal n)
+blif_words blifs.NoMemory = codes "no-memory" ++ []
+
+-- the words of an automaton's fault; want of memory is never a refusal
+abbrev pub source_words : SourceError → List ℕ
+source_words (sources.BadHeader n) = codes "bad-header" ++ behind (decimal n)
+source_words (sources.RuleForm n) = codes "rule-form" ++ behind (decimal n)
+source_words (sources.Moore n) = codes "moore" ++ behind (decimal n)
+source_words sources.EmptyGrid = codes "empty-grid" ++ []
+source_words (sources.GridTooLarge n) = codes "grid-too-large" ++ behind (decimal n)
+source_words (sources.BadItem n) = codes "bad-item" ++ behind (decimal n)
+source_words (sources.OutOfBox n) = codes "out-of-box" ++ behind (decimal n)
+source_words (sources.BadTable n) = codes "bad-table" ++ behind (decimal n)
+source_words sources.Unclosed = codes "unclosed" ++ []
+source_words (sources.TooManyRules n) = codes "too-many-rules" ++ behind (decimal n)
+source_words sources.NoMemory = codes "no-memory" ++ []
 
 abbrev pub refusal_words : Refusal → List ℕ
 refusal_words (Manifest e) = fault_words e
 refusal_words (Trace t) = trace_words t
+refusal_words (Blif e) = blif_words e
+refusal_words (Bits found wanted) = codes "bits" ++ (behind (decimal found) ++ behind (decimal wanted))
+refusal_words (Source e) = source_words e
 
 -- the line of an answer; Done has none
 abbrev pub note_of : Status → List ℕ

@@ -1,43 +1,26 @@
--- What a command writes for an input, or why it refuses it. A job is a command that is carried out.
-use Rattle.std.specs.Prelude.{ℕ, ◌≡◌, ◌++◌, List, [], length, map, codes, Option, Some, None, Result, Ok, Err, IsOk}
+-- What a command writes for an input, or why it refuses it.
+use Rattle.std.specs.Prelude.{ℕ, ◌≡◌, ◌++◌, Bool, List, [], length, map, codes, None, Result, Ok, Err, IsOk}
 use Rattle.std.specs.Fmt.{decimal}
-use Rattle.surf_words.specs.Words.{Spoken, words_of}
-use Rattle.surf_words.specs.Words as words
 use Rattle.surf_text.specs.Bytes.{lines_of}
 use Rattle.surf_manifest.specs.Line.{line_of}
 use Rattle.surf_manifest.specs.Grammar.{ManifestText, manifest_of, read_from}
 use Rattle.surf_manifest.specs.declared.error.ManifestError.{ManifestError}
 use Rattle.surf_manifest_print.specs.Prints.{print_of}
-use Rattle.surf_top.specs.declared.job.Job.{Job}
-use Rattle.surf_top.specs.declared.job.Job.TheVariants.{Run, Format, Replay}
+use Rattle.surf_top.specs.Jobs.{Job, Run, Format, Eval, Step, Replay}
 use Rattle.surf_top.specs.declared.status.Refusal.{Refusal}
-use Rattle.surf_top.specs.declared.status.Refusal.TheVariants.{Manifest, Trace}
+use Rattle.surf_top.specs.declared.status.Refusal.TheVariants.{Manifest, Trace, Blif, Bits, Source}
 use Rattle.surf_world.specs.declared.event.Event.{Event}
 use Rattle.surf_world.specs.Systems.{System, IsRun}
 use Rattle.surf_trace.specs.Replays.{FirstBad}
 use Rattle.surf_trace.specs.Splits.{before_trace}
 use Rattle.surf_trace.specs.TraceTexts.{trace_of}
 use Rattle.surf_trace.specs.declared.error.TraceError.{TraceError}
+use Rattle.surf_blif.specs.declared.error.BlifError.{BlifError}
+use Rattle.surf_blif.specs.declared.error.BlifError.TheVariants as blifs
+use Rattle.surf_blif.specs.Blifs.{Refuses}
 use Rattle.surf_top.specs.Runs.{run_text, ShowsRun}
-
-abbrev pub job_for : Option Spoken → Option Job
-job_for None = None
-job_for (Some (words.Run seed count)) = Some (Run seed count)
-job_for (Some words.Format) = Some Format
-job_for (Some (words.Eval bits)) = None
-job_for (Some words.Circuit) = None
-job_for (Some (words.Set bits)) = None
-job_for (Some (words.Automaton margin)) = None
-job_for (Some (words.Step times)) = None
-job_for (Some words.Replay) = Some Replay
-job_for (Some words.Outputs) = None
-job_for (Some (words.Observe k)) = None
-job_for (Some (words.DemoAdder n)) = None
-job_for (Some (words.DemoVote n)) = None
-
--- the job that the words ask for, if they spell a command that is carried out
-abbrev pub job_of : List (List ℕ) → Option Job
-job_of ws = job_for (words_of ws)
+use Rattle.surf_top.specs.Values.{HasValues, TellsValues, MissesBits}
+use Rattle.surf_top.specs.Generations.{source_of, printed_generation}
 
 abbrev pub printed_run : ℕ → ℕ → Result ManifestText ManifestError → Result (List ℕ) Refusal
 printed_run seed count (Ok m) = Ok (run_text m.system seed count)
@@ -82,24 +65,44 @@ IsBadAt (Err r) k = ⊥
 abbrev pub IsText : Job → List ℕ → List ℕ → Type 0
 IsText (Run seed count) input text = printed_run seed count (manifest_of input) ≡ Ok text
 IsText Format input text = printed_manifest (manifest_of input) ≡ Ok text
+IsText (Eval bits) input text = TellsValues bits input text
+IsText (Step times) input text = printed_generation times (source_of 0 input) ≡ Ok text
 IsText Replay input text = IsValidText (replay_input input) text
 
 -- a job writes some text for an input
 abbrev pub HasText : Job → List ℕ → Type 0
 HasText (Run seed count) input = IsOk (printed_run seed count (manifest_of input))
 HasText Format input = IsOk (printed_manifest (manifest_of input))
+HasText (Eval bits) input = HasValues bits input
+HasText (Step times) input = IsOk (printed_generation times (source_of 0 input))
 HasText Replay input = IsValid (replay_input input)
+
+-- a fault of the text refuses it: the error tells one, and is no want of memory
+abbrev pub IsBlifRefused : List ℕ → BlifError → Type 0
+IsBlifRefused input e = Refuses input e × (e ≡ blifs.NoMemory → ⊥)
+
+-- why a circuit has no values for some bits: the text's fault first, then the number of bits
+abbrev pub IsEvalRefused : List Bool → List ℕ → Refusal → Type 0
+IsEvalRefused bits input (Blif e) = IsBlifRefused input e
+IsEvalRefused bits input (Bits found wanted) = MissesBits bits input found wanted
+IsEvalRefused bits input (Manifest e) = ⊥
+IsEvalRefused bits input (Trace e) = ⊥
+IsEvalRefused bits input (Source e) = ⊥
 
 -- a job refuses an input
 abbrev pub IsRefused : Job → List ℕ → Refusal → Type 0
 IsRefused (Run seed count) input r = printed_run seed count (manifest_of input) ≡ Err r
 IsRefused Format input r = printed_manifest (manifest_of input) ≡ Err r
+IsRefused (Eval bits) input r = IsEvalRefused bits input r
+IsRefused (Step times) input r = printed_generation times (source_of 0 input) ≡ Err r
 IsRefused Replay input r = replay_input input ≡ Err r
 
 -- a job finds an event that is not enabled at its turn
 abbrev pub FindsBad : Job → List ℕ → ℕ → Type 0
 FindsBad (Run seed count) input k = ⊥
 FindsBad Format input k = ⊥
+FindsBad (Eval bits) input k = ⊥
+FindsBad (Step times) input k = ⊥
 FindsBad Replay input k = IsBadAt (replay_input input) k
 
 -- what a text says of the manifest that was read
@@ -111,4 +114,6 @@ ShowsOf count (Err e) text = ⊥
 abbrev pub Shows : Job → List ℕ → List ℕ → Type 0
 Shows (Run seed count) input text = ShowsOf count (manifest_of input) text
 Shows Format input text = Unit {0}
+Shows (Eval bits) input text = Unit {0}
+Shows (Step times) input text = Unit {0}
 Shows Replay input text = Unit {0}

@@ -2,7 +2,7 @@
 ghost use Rattle.std.specs.Prelude.{◌≡◌, ◌≤◌, length};
 ghost use Rattle.surf_top.specs.Answers.{IsQuiet};
 ghost use Rattle.surf_top.specs.Commands.{EndsJob};
-ghost use Rattle.surf_top.specs.declared.job.Job.TheVariants.{Format};
+ghost use Rattle.surf_top.specs.Jobs.{Format};
 
 use crate::Status;
 use crate::status::refused;

@@ -1,22 +1,27 @@
-ghost use Rattle.std.specs.Prelude.{◌≡◌, Some, None, map, string_bytes};
+ghost use Rattle.std.specs.Prelude.{◌≡◌, Some, None, MatchOption, map, string_bytes};
 ghost use Rattle.surf_words.specs.Words.{spoken};
-ghost use Rattle.surf_top.specs.Outputs.{job_for, job_of};
+ghost use Rattle.surf_top.specs.Jobs.{job_for, job_of, meant};
 
 use surf_words::{Command, read_words};
 
 /// A command that is carried out.
-#[derive(Clone, Copy, Debug, PartialEq, Eq)]
-pub enum Job {
+#[derive(Clone, Copy, Debug)]
+pub enum Job<'a> {
     /// At most `count` events of the simulation that `seed` gives.
     Run { seed: u64, count: u64 },
     /// The canonical print of a manifest.
     Format,
+    /// The values of a circuit's outputs where its inputs have the bits that a word of `0` and `1`
+    /// spells.
+    Eval { bits: &'a [u8] },
+    /// The states of an automaton's cells after so many steps.
+    Step { times: u32 },
     /// Whether a trace is a run of the manifest before it.
     Replay,
 }
 
-fn job_for(command: &Command<'_>) -> Option<Job>
-    ensures { result ≡ job_for (Some (spoken command.now)) }
+fn job_for<'a>(command: &Command<'a>) -> Option<Job<'a>>
+    ensures { MatchOption result (job_for (Some (spoken command.now)) ≡ None) (λ j. job_for (Some (spoken command.now)) ≡ Some (meant j)) }
 {
     match command {
         Command::Run { seed, count } => Some(Job::Run {
@@ -24,11 +29,11 @@ fn job_for(command: &Command<'_>) -> Option<Job>
             count: *count,
         }),
         Command::Format => Some(Job::Format),
-        Command::Eval { .. } => None,
+        Command::Eval { bits } => Some(Job::Eval { bits: *bits }),
         Command::Circuit => None,
         Command::Set { .. } => None,
         Command::Automaton { .. } => None,
-        Command::Step { .. } => None,
+        Command::Step { times } => Some(Job::Step { times: *times }),
         Command::Replay => Some(Job::Replay),
         Command::Outputs => None,
         Command::Observe { .. } => None,
@@ -38,8 +43,8 @@ fn job_for(command: &Command<'_>) -> Option<Job>
 }
 
 /// The job that the words ask for, if they spell a command that is carried out.
-pub fn read_job(words: &[String]) -> Option<Job>
-    ensures { result ≡ job_of (map string_bytes words.now) }
+pub fn read_job(words: &[String]) -> Option<Job<'_>>
+    ensures { MatchOption result (job_of (map string_bytes words.now) ≡ None) (λ j. job_of (map string_bytes words.now) ≡ Some (meant j)) }
 {
     match read_words(words) {
         Ok(command) => job_for(&command),

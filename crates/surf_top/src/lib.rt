@@ -6,6 +6,7 @@
 #![tactic(auto)]
 
 mod canonical;
+mod evaluating;
 mod events;
 mod job;
 mod print;
@@ -13,7 +14,9 @@ mod reasons;
 mod replaying;
 mod run;
 mod status;
+mod stepping;
 mod top;
+mod words;
 
 pub use job::Job;
 pub use reasons::note;

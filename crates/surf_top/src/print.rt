@@ -11,8 +11,8 @@ use surf_lattice::Lattice;
 use surf_rules::Names;
 use surf_world::World;
 
-// A line feed behind the last name of a row, else a blank.
-fn behind_name(width: u32, x: u32) -> u8
+/// A line feed behind the last name of a row, else a blank.
+pub fn behind_name(width: u32, x: u32) -> u8
     requires { x < width }
     ensures { result ≡ behind_name width x }
 {

@@ -1,66 +1,13 @@
 // The line that says why a call did not end well.
-ghost use Rattle.std.specs.Prelude.{◌≡◌, ◌++◌, ◌∷◌, [], codes, Some, None, OnOk};
+ghost use Rattle.std.specs.Prelude.{◌≡◌, ◌++◌, ◌∷◌, [], codes, OnOk};
 ghost use Rattle.std.specs.Fmt.{decimal};
 ghost use Rattle.surf_base.specs.Emits.{Emits};
-ghost use Rattle.surf_top.specs.Notes.{note_of, Notes, fault_words, trace_words, refusal_words, block_words, numbered, number_text};
+ghost use Rattle.surf_top.specs.Notes.{note_of, Notes, behind, refusal_words, tail_text};
 
+use crate::words::{Tail, words_of_refusal};
 use crate::{Refusal, Status};
+use itoa::Buffer;
 use surf_base::{Outbox, Sink, WriteFault, put_decimal, write_all};
-use surf_manifest::{Block, ManifestError};
-use surf_trace::TraceError;
-
-// The words of a fault, and its number.
-fn words_of_fault(fault: &ManifestError) -> (&'static [u8], Option<u64>)
-    ensures { fault_words fault.now ≡ numbered result.0.now result.1 }
-{
-    match fault {
-        ManifestError::BadLine(line) => (b"bad-line", Some(*line)),
-        ManifestError::BadRule(line) => (b"bad-rule", Some(*line)),
-        ManifestError::BadRate(line) => (b"bad-rate", Some(*line)),
-        ManifestError::Ragged(line) => (b"ragged", Some(*line)),
-        ManifestError::Include(line) => (b"include", Some(*line)),
-        ManifestError::BlockTwice(line) => (b"block-twice", Some(*line)),
-        ManifestError::BadOption(line) => (b"bad-option", Some(*line)),
-        ManifestError::Unclosed(line) => (b"unclosed", Some(*line)),
-        ManifestError::MissingBlock(block) => (words_of_block(*block), None),
-        ManifestError::NoSites => (b"no-sites", None),
-        ManifestError::TooManyRules(count) => (b"too-many-rules", Some(*count)),
-        ManifestError::TooManySites(count) => (b"too-many-sites", Some(*count)),
-        ManifestError::WrapSize => (b"wrap-size", None),
-        ManifestError::NoMemory => (b"no-memory", None),
-    }
-}
-
-fn words_of_block(block: Block) -> &'static [u8]
-    ensures { result.now ≡ block_words block }
-{
-    match block {
-        Block::Rules => b"missing-block rules",
-        Block::State => b"missing-block state",
-    }
-}
-
-// The words of a trace's fault, and its line.
-fn words_of_trace(fault: &TraceError) -> (&'static [u8], Option<u64>)
-    ensures { trace_words fault.now ≡ numbered result.0.now result.1 }
-{
-    match fault {
-        TraceError::NoTrace => (b"no-trace", None),
-        TraceError::BadTrace(line) => (b"bad-trace", Some(*line)),
-        TraceError::Unclosed(line) => (b"unclosed", Some(*line)),
-        TraceError::NoMemory => (b"no-memory", None),
-    }
-}
-
-// The words of a refusal, and its number.
-fn words_of_refusal(refusal: &Refusal) -> (&'static [u8], Option<u64>)
-    ensures { refusal_words refusal.now ≡ numbered result.0.now result.1 }
-{
-    match refusal {
-        Refusal::Manifest(fault) => words_of_fault(fault),
-        Refusal::Trace(fault) => words_of_trace(fault),
-    }
-}
 
 fn put_digits<N: Sink>(outbox: &mut Outbox, notes: &mut N, n: u64) -> Result<(), WriteFault>
     ensures { Emits (N.written notes.old) (N.written notes.new) outbox.old outbox.new (N.faults notes.old) (N.faults notes.new) (decimal n) result }
@@ -70,9 +17,27 @@ fn put_digits<N: Sink>(outbox: &mut Outbox, notes: &mut N, n: u64) -> Result<(),
     outbox.put(notes, &digits[..count])
 }
 
-// A blank and a number.
+// The same of a number that may have 39 digits.
+fn put_wide_digits<N: Sink>(outbox: &mut Outbox, notes: &mut N, n: u128) -> Result<(), WriteFault>
+    ensures { Emits (N.written notes.old) (N.written notes.new) outbox.old outbox.new (N.faults notes.old) (N.faults notes.new) (decimal n) result }
+{
+    let mut digits = Buffer::new();
+    outbox.put(notes, digits.format(n).as_bytes())
+}
+
+// A text behind a blank.
+fn put_behind<N: Sink>(outbox: &mut Outbox, notes: &mut N, text: &[u8]) -> Result<(), WriteFault>
+    ensures { Emits (N.written notes.old) (N.written notes.new) outbox.old outbox.new (N.faults notes.old) (N.faults notes.new) (behind text.now) result }
+{
+    match outbox.put(notes, b" ") {
+        Ok(()) => outbox.put(notes, text),
+        Err(fault) => Err(fault),
+    }
+}
+
+// A number behind a blank.
 fn put_number<N: Sink>(outbox: &mut Outbox, notes: &mut N, n: u64) -> Result<(), WriteFault>
-    ensures { Emits (N.written notes.old) (N.written notes.new) outbox.old outbox.new (N.faults notes.old) (N.faults notes.new) (32 ∷ decimal n) result }
+    ensures { Emits (N.written notes.old) (N.written notes.new) outbox.old outbox.new (N.faults notes.old) (N.faults notes.new) (behind (decimal n)) result }
 {
     match outbox.put(notes, b" ") {
         Ok(()) => put_digits(outbox, notes, n),
@@ -80,16 +45,54 @@ fn put_number<N: Sink>(outbox: &mut Outbox, notes: &mut N, n: u64) -> Result<(),
     }
 }
 
-fn put_some<N: Sink>(
+fn put_wide_number<N: Sink>(outbox: &mut Outbox, notes: &mut N, n: u128) -> Result<(), WriteFault>
+    ensures { Emits (N.written notes.old) (N.written notes.new) outbox.old outbox.new (N.faults notes.old) (N.faults notes.new) (behind (decimal n)) result }
+{
+    match outbox.put(notes, b" ") {
+        Ok(()) => put_wide_digits(outbox, notes, n),
+        Err(fault) => Err(fault),
+    }
+}
+
+fn put_line_and_name<N: Sink>(
     outbox: &mut Outbox,
     notes: &mut N,
-    number: Option<u64>,
+    line: u64,
+    name: &[u8],
 ) -> Result<(), WriteFault>
-    ensures { Emits (N.written notes.old) (N.written notes.new) outbox.old outbox.new (N.faults notes.old) (N.faults notes.new) (number_text number) result }
+    ensures { Emits (N.written notes.old) (N.written notes.new) outbox.old outbox.new (N.faults notes.old) (N.faults notes.new) (behind (decimal line) ++ behind name.now) result }
 {
-    match number {
-        Some(n) => put_number(outbox, notes, n),
-        None => Ok(()),
+    match put_number(outbox, notes, line) {
+        Ok(()) => put_behind(outbox, notes, name),
+        Err(fault) => Err(fault),
+    }
+}
+
+fn put_numbers<N: Sink>(
+    outbox: &mut Outbox,
+    notes: &mut N,
+    first: u64,
+    second: u64,
+) -> Result<(), WriteFault>
+    ensures { Emits (N.written notes.old) (N.written notes.new) outbox.old outbox.new (N.faults notes.old) (N.faults notes.new) (behind (decimal first) ++ behind (decimal second)) result }
+{
+    match put_number(outbox, notes, first) {
+        Ok(()) => put_number(outbox, notes, second),
+        Err(fault) => Err(fault),
+    }
+}
+
+// What follows the words.
+fn put_tail<N: Sink>(outbox: &mut Outbox, notes: &mut N, tail: &Tail<'_>) -> Result<(), WriteFault>
+    ensures { Emits (N.written notes.old) (N.written notes.new) outbox.old outbox.new (N.faults notes.old) (N.faults notes.new) (tail_text tail.now) result }
+{
+    match tail {
+        Tail::Nothing => Ok(()),
+        Tail::Line(line) => put_number(outbox, notes, *line),
+        Tail::Number(n) => put_wide_number(outbox, notes, *n),
+        Tail::Named(name) => put_behind(outbox, notes, *name),
+        Tail::LineAndName(line, name) => put_line_and_name(outbox, notes, *line, *name),
+        Tail::Numbers(first, second) => put_numbers(outbox, notes, *first, *second),
     }
 }
 
@@ -97,12 +100,12 @@ fn put_words<N: Sink>(
     outbox: &mut Outbox,
     notes: &mut N,
     words: &[u8],
-    number: Option<u64>,
+    tail: &Tail<'_>,
 ) -> Result<(), WriteFault>
-    ensures { Emits (N.written notes.old) (N.written notes.new) outbox.old outbox.new (N.faults notes.old) (N.faults notes.new) (numbered words.now number) result }
+    ensures { Emits (N.written notes.old) (N.written notes.new) outbox.old outbox.new (N.faults notes.old) (N.faults notes.new) (words.now ++ tail_text tail.now) result }
 {
     match outbox.put(notes, words) {
-        Ok(()) => put_some(outbox, notes, number),
+        Ok(()) => put_tail(outbox, notes, tail),
         Err(fault) => Err(fault),
     }
 }
@@ -114,8 +117,8 @@ fn put_reason<N: Sink>(
 ) -> Result<(), WriteFault>
     ensures { Emits (N.written notes.old) (N.written notes.new) outbox.old outbox.new (N.faults notes.old) (N.faults notes.new) (refusal_words refusal.now) result }
 {
-    let (words, number) = words_of_refusal(refusal);
-    put_words(outbox, notes, words, number)
+    let (words, tail) = words_of_refusal(refusal);
+    put_words(outbox, notes, words, &tail)
 }
 
 // The last text of a line, and all that is held.

@@ -4,7 +4,7 @@ ghost use Rattle.surf_world.specs.declared.event.Event.{Event};
 ghost use Rattle.surf_top.specs.Answers.{IsQuiet};
 ghost use Rattle.surf_top.specs.Commands.{EndsJob};
 ghost use Rattle.surf_top.specs.Outputs.{valid_text};
-ghost use Rattle.surf_top.specs.declared.job.Job.TheVariants.{Replay};
+ghost use Rattle.surf_top.specs.Jobs.{Replay};
 
 use crate::Status;
 use crate::status::{refused, refused_trace};

@@ -10,7 +10,7 @@ ghost use Rattle.surf_world.specs.Renamings.{AreBelow};
 ghost use Rattle.surf_top.specs.Prints.{placed_text};
 ghost use Rattle.surf_top.specs.Commands.{EndsJob, IsReady};
 ghost use Rattle.surf_top.specs.Answers.{IsQuiet};
-ghost use Rattle.surf_top.specs.declared.job.Job.TheVariants.{Run};
+ghost use Rattle.surf_top.specs.Jobs.{Run};
 
 use crate::Status;
 use crate::events::print_trace;

@@ -1,6 +1,9 @@
 ghost use Rattle.std.specs.Prelude.{◌≡◌};
-ghost use Rattle.surf_top.specs.Commands.{answer_to, answer_to_trace};
+ghost use Rattle.surf_top.specs.Commands.{answer_to, answer_to_bits, answer_to_blif, answer_to_source, answer_to_trace};
 
+use surf_auto::SourceError;
+use surf_blif::BlifError;
+use surf_logic::EvalError;
 use surf_manifest::ManifestError;
 use surf_trace::TraceError;
 
@@ -9,6 +12,10 @@ use surf_trace::TraceError;
 pub enum Refusal {
     Manifest(ManifestError),
     Trace(TraceError),
+    Blif(BlifError),
+    /// There are so many bits, and the circuit has so many inputs.
+    Bits { found: u64, wanted: u64 },
+    Source(SourceError),
 }
 
 /// How a call of the program ended.
@@ -67,5 +74,35 @@ pub fn refused_trace(fault: TraceError) -> Status
     match fault {
         TraceError::NoMemory => Status::NoMemory,
         fault => Status::Refused(Refusal::Trace(fault)),
+    }
+}
+
+// The answer to a text that is no circuit.
+pub fn refused_blif(error: BlifError) -> Status
+    ensures { result ≡ answer_to_blif error }
+{
+    match error {
+        BlifError::NoMemory => Status::NoMemory,
+        error => Status::Refused(Refusal::Blif(error)),
+    }
+}
+
+// The answer where a circuit is not evaluated.
+pub fn refused_bits(error: EvalError) -> Status
+    ensures { result ≡ answer_to_bits error }
+{
+    match error {
+        EvalError::Length { found, wanted } => Status::Refused(Refusal::Bits { found, wanted }),
+        EvalError::NoMemory => Status::NoMemory,
+    }
+}
+
+// The answer to a text that is no automaton.
+pub fn refused_source(error: SourceError) -> Status
+    ensures { result ≡ answer_to_source error }
+{
+    match error {
+        SourceError::NoMemory => Status::NoMemory,
+        error => Status::Refused(Refusal::Source(error)),
     }
 }

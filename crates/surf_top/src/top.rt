@@ -2,13 +2,15 @@ ghost use Rattle.std.specs.Prelude.{◌≡◌, ◌≤◌, length, map, string_by
 ghost use Rattle.surf_top.specs.Answers.{HasCauses, IsComplete, IsQuiet, PrintsRun};
 ghost use Rattle.surf_top.specs.Commands.{EndsJob};
 ghost use Rattle.surf_top.specs.Notes.{Notes, note_of};
-ghost use Rattle.surf_top.specs.Outputs.{job_of};
+ghost use Rattle.surf_top.specs.Jobs.{job_of, meant};
 
 use crate::canonical::format;
+use crate::evaluating::evaluate;
 use crate::job::read_job;
 use crate::reasons::note;
 use crate::replaying::check_trace;
 use crate::run::run;
+use crate::stepping::show_generation;
 use crate::{Job, Status};
 use std::alloc::Global;
 use surf_base::{ReadAllError, Sink, Source, read_all};
@@ -16,14 +18,16 @@ use surf_base::{ReadAllError, Sink, Source, read_all};
 /// The most bytes that an input may have.
 const LIMIT: u64 = 268_435_456;
 
-fn carry_out<K: Sink>(alloc: Global, job: Job, input: Vec<u8>, out: &mut K) -> Status
+fn carry_out<K: Sink>(alloc: Global, job: &Job<'_>, input: Vec<u8>, out: &mut K) -> Status
     requires { length input.items ≤ 268435456 }
-    ensures ends { EndsJob job input.items (K.written out.old) (K.written out.new) (K.faults out.old) (K.faults out.new) result }
+    ensures ends { EndsJob (meant job.now) input.items (K.written out.old) (K.written out.new) (K.faults out.old) (K.faults out.new) result }
     ensures quiet { IsQuiet result → out.new ≡ out.old }
 {
     match job {
-        Job::Run { seed, count } => run(alloc, input, seed, count, out),
+        Job::Run { seed, count } => run(alloc, input, *seed, *count, out),
         Job::Format => format(alloc, input, out),
+        Job::Eval { bits } => evaluate(alloc, input, *bits, out),
+        Job::Step { times } => show_generation(alloc, input, *times, out),
         Job::Replay => check_trace(alloc, input, out),
     }
 }
@@ -52,7 +56,7 @@ fn answer<S: Source, K: Sink>(
         return Status::Usage;
     };
     match read_all(alloc, source, LIMIT) {
-        Ok(input) => carry_out(alloc, job, input, out),
+        Ok(input) => carry_out(alloc, &job, input, out),
         Err(ReadAllError::TooLong) => Status::TooLong,
         Err(ReadAllError::ReadFault) => Status::ReadFault,
         Err(ReadAllError::NoMemory) => Status::NoMemory,

@@ -2,7 +2,7 @@ use Rattle.std.proofs.Common.{ap, sym, ◌∙◌}
 use Rattle.std.proofs.lemmas.Bool.{false≢true}
 use Rattle.surf_world.proofs.Chosen.{none_from_stuck, stuck_from_none}
 use Rattle.surf_top.specs.Runs.{word_for}
-use Rattle.surf_top.proofs.Words.{not_none}
+use Rattle.surf_top.proofs.LastWords.{not_none}
 use Rattle.surf_top.proofs.print.last_word.Goals as goal
 
 pub returns-then-is_stuck : goal.returns-then-is_stuck

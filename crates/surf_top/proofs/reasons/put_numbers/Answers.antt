@@ -1,0 +1,10 @@
+use Rattle.std.specs.Fmt.{decimal}
+use Rattle.surf_base.proofs.EmitLemmas.{after_whole, cut_first}
+use Rattle.surf_top.specs.Notes.{behind}
+use Rattle.surf_top.proofs.reasons.put_numbers.Goals as goal
+
+pub returns-in-Ok : goal.returns-in-Ok
+returns-in-Ok g c = after_whole _ _ _ _ _ _ _ _ _ (behind (decimal c.args.first)) (behind (decimal c.args.second)) _ c.in-Ok.ensures.whole c.put_number.ensures.later c.put_number-in-Ok.ensures
+
+pub returns-in-Err : goal.returns-in-Err
+returns-in-Err g c = cut_first _ _ _ _ _ _ (behind (decimal c.args.first)) (behind (decimal c.args.second)) _ _ c.in-Err.is c.put_number.ensures

@@ -1,0 +1,45 @@
+-- The commands that are carried out.
+use Rattle.std.specs.Prelude.{ℕ, Bool, ◌==◌, List, map, Option, Some, None}
+use Rattle.surf_words.specs.Words.{Spoken, words_of}
+use Rattle.surf_words.specs.Words as words
+use Rattle.surf_top.specs.declared.job.Job as declared
+use Rattle.surf_top.specs.declared.job.Job.TheVariants as variants
+
+-- a command that is carried out, with its values
+pub data Job : Type 0 where
+  Run : ℕ → ℕ → Job
+  Format : Job
+  Eval : List Bool → Job
+  Step : ℕ → Job
+  Replay : Job
+
+-- the bits that a word of 0 and 1 spells
+abbrev pub bits_of : List ℕ → List Bool
+bits_of word = map (λ b. b == 49) word
+
+-- a job of the program as the definitions see it
+abbrev pub meant : declared.Job → Job
+meant (variants.Run seed count) = Run seed count
+meant variants.Format = Format
+meant (variants.Eval bits) = Eval (bits_of bits.now)
+meant (variants.Step times) = Step times
+meant variants.Replay = Replay
+
+abbrev pub job_for : Option Spoken → Option Job
+job_for None = None
+job_for (Some (words.Run seed count)) = Some (Run seed count)
+job_for (Some words.Format) = Some Format
+job_for (Some (words.Eval bits)) = Some (Eval (bits_of bits))
+job_for (Some words.Circuit) = None
+job_for (Some (words.Set bits)) = None
+job_for (Some (words.Automaton margin)) = None
+job_for (Some (words.Step times)) = Some (Step times)
+job_for (Some words.Replay) = Some Replay
+job_for (Some words.Outputs) = None
+job_for (Some (words.Observe k)) = None
+job_for (Some (words.DemoAdder n)) = None
+job_for (Some (words.DemoVote n)) = None
+
+-- the job that the words ask for, if they spell a command that is carried out
+abbrev pub job_of : List (List ℕ) → Option Job
+job_of ws = job_for (words_of ws)
