@@ -1,11 +1,10 @@
 -- Texts that are flushed, and notes.
-use Rattle.std.proofs.Common.{ℕ, ◌≡◌, ◌≤◌, List, [], ◌++◌, Option, Result, Ok, Err, OnOk, OnErr, refl, sym, ◌∙◌, ap, subst, append-nil}
+use Rattle.std.proofs.Common.{ℕ, ◌≡◌, ◌≤◌, List, [], ◌++◌, Option, Result, Ok, Err, OnOk, OnErr, sym, ◌∙◌, ap, subst, append-nil}
 use Rattle.std.specs.Io.KnownBytes.{Appends}
 use Rattle.surf_base.specs.Known.{AppendsFront}
 use Rattle.surf_base.specs.Emits.{Sent, Emits}
 use Rattle.surf_base.proofs.KnownLemmas.{front_of}
 use Rattle.surf_base.proofs.EmitLemmas.{after_whole, sent_nothing}
-use Rattle.surf_base.specs.Causes.{HasCause}
 use Rattle.surf_top.specs.Notes.{Notes}
 
 -- a text was taken, and then all that is held was sent

@@ -1,11 +1,9 @@
 -- How a job ends, and which cause each answer then has.
-use Rattle.std.proofs.Common.{ℕ, ◌≡◌, ◌≤◌, ◌<◌, Bool, List, length, Option, Some, None, Result, Ok, Err, IfSome, IfOk, IsOk, is_ok, OnOk, OnErr, refl, sym, ◌∙◌, ap, subst, inl, inr, ◌⊎◌, arith}
+use Rattle.std.proofs.Common.{ℕ, ◌≡◌, ◌≤◌, ◌<◌, Bool, List, length, Option, Some, None, Result, Ok, Err, IfSome, IfOk, is_ok, refl, sym, ◌∙◌, ap, subst, inl, inr, ◌⊎◌, arith}
 use Rattle.std.proofs.lemmas.Bool.{false≢true}
 use Rattle.std.specs.Io.KnownBytes.{Appends}
-use Rattle.rand_core.specs.Stream.{Stream}
-use Rattle.surf_base.specs.Causes.{Rose, HasCause}
+use Rattle.surf_base.specs.Causes.{Rose}
 use Rattle.surf_base.specs.Known.{AppendsFront, ReadsWhole}
-use Rattle.surf_base.specs.Emits.{Emits}
 use Rattle.surf_rules.specs.Names.{text_of}
 use Rattle.surf_pick.specs.Draws.{seeded, words_of}
 use Rattle.surf_sim.specs.Simulations.{Simulation}
@@ -23,11 +21,11 @@ use Rattle.surf_top.specs.declared.status.Refusal.{Refusal}
 use Rattle.surf_top.specs.declared.status.Refusal.TheVariants.{Manifest, Trace, Blif, Bits, Source}
 use Rattle.surf_top.specs.declared.status.Status.{Status}
 use Rattle.surf_top.specs.declared.status.Status.TheVariants.{Done, Refused, Usage, NotEnabled, ReadFault, WriteFault, NoMemory, TooLong}
-use Rattle.surf_top.specs.Answers.{Ends, HasCauses, IsComplete, PrintsRun, ReadWhole, WroteWhole, WroteFront, limit}
+use Rattle.surf_top.specs.Answers.{Ends, HasCauses, IsComplete, PrintsRun, WroteWhole, WroteFront, limit}
 use Rattle.surf_top.specs.Commands.{IsReady, EndsJob}
 use Rattle.surf_top.specs.Outputs.{IsText, HasText, IsRefused, FindsBad, IsBadAt, IsValid, IsBlifRefused, IsEvalRefused, printed_run, replay_input, Shows, ShowsOf}
 use Rattle.surf_top.specs.Prints.{placed_text}
-use Rattle.surf_top.specs.Runs.{run_text, ShowsRun}
+use Rattle.surf_top.specs.Runs.{ShowsRun}
 use Rattle.surf_top.proofs.Shown.{numbered_text, numbered_shows}
 
 -- the text of a simulator of the manifest is the job's output

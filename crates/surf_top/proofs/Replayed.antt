@@ -1,5 +1,5 @@
 -- What a replay of numbers says of the names.
-use Rattle.std.proofs.Common.{ℕ, ◌≡◌, ◌-◌, List, [], length, map, take, Option, Result, Ok, Err, refl, sym, ◌∙◌, ap, subst}
+use Rattle.std.proofs.Common.{ℕ, ◌≡◌, ◌-◌, List, [], length, map, take, Option, Result, Ok, refl, sym, ◌∙◌, ap, subst}
 use Rattle.std.specs.Io.KnownBytes.{Appends}
 use Rattle.surf_base.specs.Causes.{Rose}
 use Rattle.surf_base.specs.Known.{AppendsFront}
@@ -7,7 +7,7 @@ use Rattle.surf_rules.specs.Names.{text_of}
 use Rattle.surf_world.specs.declared.event.Event.{Event}
 use Rattle.surf_world.specs.Systems.{System, Enabled, IsRun, left_by}
 use Rattle.surf_world.specs.Worlds.{Placed}
-use Rattle.surf_world.specs.Renamings.{renamed, renamed_system}
+use Rattle.surf_world.specs.Renamings.{renamed}
 use Rattle.surf_world.proofs.Renamed.{left_renamed, enabled_back, run_both, texts_apart}
 use Rattle.surf_text.specs.Bytes.{lines_of}
 use Rattle.surf_manifest.specs.Line.{line_of}

@@ -1,12 +1,12 @@
 -- The names of a row with the bytes behind them, and the rows of a surface.
-use Rattle.std.proofs.Common.{ℕ, zero, suc, ◌≡◌, ◌+◌, ◌-◌, ◌*◌, ◌<◌, ◌≤◌, List, [], ◌∷◌, ◌++◌, length, map, take, drop, Option, Some, None, Result, Ok, Err, refl, sym, ◌∙◌, ap, subst, arith, append_assoc, append-nil, length-append, slice_get, get_or, ne_eqb, eq-eqb, ◌==◌}
+use Rattle.std.proofs.Common.{ℕ, zero, suc, ◌≡◌, ◌+◌, ◌-◌, ◌*◌, ◌<◌, ◌≤◌, List, [], ◌∷◌, ◌++◌, length, map, take, drop, Option, Some, Result, Ok, Err, refl, sym, ◌∙◌, ap, subst, arith, append_assoc, append-nil, slice_get, get_or, ne_eqb, eq-eqb}
 use Rattle.std.proofs.Math.Seq.{take-suc}
 use Rattle.std.proofs.Math.Nat.{mul-le-mul_right}
 use Rattle.std.proofs.lemmas.List.{take-append-drop, drop-drop, get_or-take, get_or-drop, length-take-le, length-drop, map-append, take_all}
 use Rattle.std.proofs.lemmas.Option.{slice_get_within, get_or_from_slice_get, slice_get-get_or}
 use Rattle.surf_base.specs.Known.{AppendsFront}
 use Rattle.surf_base.specs.Emits.{Sent, Emits}
-use Rattle.surf_base.proofs.EmitLemmas.{sent_nothing, sent_more, front_after, front_longer, rose_earlier}
+use Rattle.surf_base.proofs.EmitLemmas.{sent_more, front_after, front_longer, rose_earlier}
 use Rattle.surf_text.specs.Bytes.{spaced, ended, rows_of}
 use Rattle.surf_top.specs.Prints.{cells, behind_name}
 

@@ -1,10 +1,10 @@
 -- A simulation of numbers is the run of the system that they name.
-use Rattle.std.proofs.Common.{ℕ, ◌≡◌, ◌<◌, ◌≤◌, nat_eq, List, [], ◌∷◌, ◌++◌, length, map, Ok, refl, sym, ◌∙◌, ap, subst, inl, inr, ◌⊎◌}
+use Rattle.std.proofs.Common.{ℕ, ◌≡◌, nat_eq, List, [], ◌∷◌, ◌++◌, length, map, refl, sym, ◌∙◌, ap, subst, inl, inr}
 use Rattle.std.specs.Str.{bytes_eq}
 use Rattle.rand_core.specs.Stream.{Stream}
 use Rattle.surf_rules.specs.Names.{text_of, AreDistinct}
 use Rattle.surf_world.specs.declared.event.Event.{Event}
-use Rattle.surf_world.specs.Systems.{Surface, System, after, IsRun, left_by, Stuck}
+use Rattle.surf_world.specs.Systems.{Surface, System, after, left_by, Stuck}
 use Rattle.surf_world.specs.Choices.{choices}
 use Rattle.surf_world.specs.Worlds.{Placed}
 use Rattle.surf_world.specs.Renamings.{renamed_system, AreBelow, IsOneToOne}

@@ -1,5 +1,5 @@
 -- The rows of a generation, and what they tell of the text that was read.
-use Rattle.std.proofs.Common.{ℕ, zero, suc, ◌≡◌, ◌+◌, ◌*◌, ◌<◌, ◌≤◌, List, [], ◌∷◌, ◌++◌, length, map, take, drop, slice_get, slice_index, append_assoc, Some, true, false, Option, Result, Ok, Err, refl, sym, ◌∙◌, ap, subst, arith}
+use Rattle.std.proofs.Common.{ℕ, zero, suc, ◌≡◌, ◌+◌, ◌*◌, ◌<◌, ◌≤◌, List, [], ◌∷◌, ◌++◌, length, map, take, drop, slice_get, slice_index, append_assoc, Some, true, false, Option, Result, Ok, Err, refl, sym, ◌∙◌, ap, arith}
 use Rattle.std.specs.Fmt.{decimal}
 use Rattle.std.proofs.lemmas.List.{length-map, take_all}
 use Rattle.std.specs.Io.KnownBytes.{Appends}
@@ -13,7 +13,6 @@ use Rattle.surf_text.specs.Bytes.{ended, spaced, rows_of}
 use Rattle.surf_rle.specs.Rle as rle
 use Rattle.surf_table.specs.TableTexts as table
 use Rattle.surf_auto.specs.Lines.{is_table}
-use Rattle.surf_top.specs.declared.status.Status.{Status}
 use Rattle.surf_top.specs.declared.status.Status.TheVariants.{Done, WriteFault}
 use Rattle.surf_top.specs.Commands.{EndsJob, answer_to_source}
 use Rattle.surf_top.specs.Generations.{source_of, printed_generation, generation_text}

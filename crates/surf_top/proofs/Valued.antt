@@ -1,5 +1,5 @@
 -- The lines of a circuit's outputs, and what they tell of the text that was read.
-use Rattle.std.proofs.Common.{ℕ, zero, suc, ◌≡◌, ◌≢◌, ◌+◌, ◌<◌, Bool, false, List, [], ◌∷◌, ◌++◌, length, map, take, get_or, Option, Result, Ok, Err, refl, sym, ◌∙◌, ap, subst, arith, append_assoc, append-nil}
+use Rattle.std.proofs.Common.{ℕ, zero, suc, ◌≡◌, ◌+◌, ◌<◌, Bool, false, List, [], ◌∷◌, ◌++◌, length, map, take, get_or, Option, sym, ◌∙◌, ap, subst, arith, append_assoc, append-nil}
 use Rattle.std.proofs.lemmas.List.{length-map}
 use Rattle.std.specs.Io.KnownBytes.{Appends}
 use Rattle.surf_base.specs.Causes.{Rose}
@@ -9,12 +9,11 @@ use Rattle.surf_rules.specs.Names.{text_of}
 use Rattle.surf_logic.specs.Equations.{Numbered}
 use Rattle.surf_logic.specs.Answers.{EvalOf, IsEval, HasEvalFault}
 use Rattle.surf_logic.proofs.NamedTexts.{values}
-use Rattle.surf_blif.specs.Blifs.{IsRead, Refuses, parts_of}
+use Rattle.surf_blif.specs.Blifs.{IsRead, Refuses}
 use Rattle.surf_blif.specs.declared.error.BlifError.{BlifError}
 use Rattle.surf_blif.specs.declared.error.BlifError.TheVariants as blifs
 use Rattle.surf_logic.specs.declared.values.EvalError.{EvalError}
 use Rattle.surf_logic.specs.declared.values.EvalError.TheVariants as evals
-use Rattle.surf_top.specs.declared.status.Status.{Status}
 use Rattle.surf_top.specs.declared.status.Status.TheVariants.{Done, WriteFault}
 use Rattle.surf_top.specs.Commands.{EndsJob, answer_to_blif, answer_to_bits}
 use Rattle.surf_top.specs.Jobs.{Eval}

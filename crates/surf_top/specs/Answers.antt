@@ -1,10 +1,9 @@
 -- When each answer of the program comes, and what it leaves.
-use Rattle.std.specs.Prelude.{ℕ, ◌≡◌, ◌<◌, ◌≤◌, ◌⊎◌, List, length, Option, Some, None, IfSome, IsSome, IfOk, IsOk, Ok, Err}
+use Rattle.std.specs.Prelude.{ℕ, ◌≡◌, ◌<◌, ◌≤◌, ◌⊎◌, List, length, Option, Some, None, IfSome, IfOk}
 use Rattle.std.specs.Io.KnownBytes.{Appends, IsAtEnd}
 use Rattle.surf_base.specs.Causes.{Rose}
 use Rattle.surf_base.specs.Known.{AppendsFront}
 use Rattle.surf_manifest.specs.Grammar.{manifest_of}
-use Rattle.surf_top.specs.declared.status.Refusal.{Refusal}
 use Rattle.surf_top.specs.declared.status.Status.{Status}
 use Rattle.surf_top.specs.declared.status.Status.TheVariants.{Done, Refused, Usage, NotEnabled, ReadFault, WriteFault, NoMemory, TooLong}
 use Rattle.surf_top.specs.Jobs.{Job, Run, Format, Eval, Step, Replay}

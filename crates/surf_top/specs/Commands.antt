@@ -1,5 +1,5 @@
 -- How a command ends over an input that was read.
-use Rattle.std.specs.Prelude.{ℕ, ◌≡◌, List, Option, Ok, Err}
+use Rattle.std.specs.Prelude.{ℕ, ◌≡◌, List, Option}
 use Rattle.surf_base.specs.Causes.{Rose}
 use Rattle.surf_pick.specs.Draws.{seeded}
 use Rattle.surf_sim.specs.Simulations.{Simulation}

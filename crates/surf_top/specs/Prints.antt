@@ -1,5 +1,5 @@
 -- What the printers of a world of numbers write, and how far they have come.
-use Rattle.std.specs.Prelude.{ℕ, zero, suc, ◌+◌, ◌-◌, ◌≡◌, ◌==◌, nat_eq, List, [], ◌∷◌, ◌++◌, length, map, Option, if◌then◌else◌}
+use Rattle.std.specs.Prelude.{ℕ, ◌+◌, ◌-◌, ◌≡◌, ◌==◌, nat_eq, List, [], ◌∷◌, ◌++◌, length, map, Option, if◌then◌else◌}
 use Rattle.rand_core.specs.Stream.{Stream}
 use Rattle.surf_base.specs.Emits.{Sent}
 use Rattle.surf_world.specs.declared.event.Event.{Event}
@@ -8,7 +8,7 @@ use Rattle.surf_world.specs.Choices.{choices}
 use Rattle.surf_world.specs.Worlds.{Placed}
 use Rattle.surf_sim.specs.Simulations.{sim_events}
 use Rattle.surf_trace.specs.Traces.{events_text, trace_text}
-use Rattle.surf_top.specs.Runs.{state_text, state_foot, rows_text, word_for}
+use Rattle.surf_top.specs.Runs.{state_text, state_foot, word_for}
 
 -- a byte behind a name: the line feed behind the last one of a row, else a blank
 abbrev pub behind_name : ℕ → ℕ → ℕ

@@ -1,5 +1,5 @@
 -- The text of a run of a manifest.
-use Rattle.std.specs.Prelude.{ℕ, ◌+◌, ◌≡◌, ◌<◌, ◌≤◌, ◌⊎◌, List, [], ◌∷◌, ◌++◌, length, map, codes, if◌then◌else◌}
+use Rattle.std.specs.Prelude.{ℕ, ◌≡◌, ◌<◌, ◌≤◌, ◌⊎◌, List, [], ◌∷◌, ◌++◌, length, map, codes}
 use Rattle.std.specs.Str.{bytes_eq}
 use Rattle.surf_lattice.specs.Grids.{Grid}
 use Rattle.surf_world.specs.declared.event.Event.{Event}

@@ -1,4 +1,4 @@
-use Rattle.std.proofs.Common.{rules, arith, ℕ, ◌<◌, ◌≤◌, ◌+◌, ap, sym, ◌∙◌, subst}
+use Rattle.std.proofs.Common.{rules, arith, ◌<◌, ◌≤◌, ◌+◌, ap, sym, ◌∙◌, subst}
 use Rattle.surf_pick.specs.Draws.{words_of}
 use Rattle.surf_world.specs.Worlds.{Placed}
 use Rattle.surf_top.specs.Prints.{SoFar}

@@ -1,4 +1,3 @@
-use Rattle.std.proofs.Common.{ℕ}
 use Rattle.surf_top.specs.Prints.{number_word}
 use Rattle.surf_top.specs.Runs.{state_foot}
 use Rattle.surf_base.proofs.EmitLemmas.{after_whole, cut_first}

@@ -1,4 +1,4 @@
-use Rattle.std.proofs.Common.{rules, arith, ℕ, Some, ◌≡◌, ◌<◌, ◌≤◌, ◌+◌, ◌*◌, map, take, drop, length, ap, sym, ◌∙◌, subst, slice_get}
+use Rattle.std.proofs.Common.{rules, arith, Some, ◌≡◌, ◌<◌, ◌≤◌, ◌+◌, ◌*◌, map, take, drop, length, ap, sym, ◌∙◌, slice_get}
 use Rattle.std.proofs.lemmas.List.{length-map}
 use Rattle.surf_rules.specs.Names.{text_of}
 use Rattle.surf_top.specs.Prints.{behind_name}

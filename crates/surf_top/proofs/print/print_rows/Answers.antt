@@ -1,4 +1,4 @@
-use Rattle.std.proofs.Common.{rules, arith, ◌≡◌, ◌<◌, ◌≤◌, ◌*◌, ◌++◌, ◌∷◌, [], map, take, drop}
+use Rattle.std.proofs.Common.{rules, arith, ◌≡◌, ◌<◌, ◌*◌, ◌++◌, ◌∷◌, [], map, take, drop}
 use Rattle.surf_rules.specs.Names.{text_of}
 use Rattle.surf_text.specs.Bytes.{spaced}
 use Rattle.surf_top.proofs.Rows.{row_lines, row_more, row_split, cut_within, sent_part, rows_done}

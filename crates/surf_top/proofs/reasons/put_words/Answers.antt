@@ -1,4 +1,3 @@
-use Rattle.std.proofs.Common.{ℕ}
 use Rattle.surf_top.specs.Notes.{tail_text}
 use Rattle.surf_base.proofs.EmitLemmas.{after_whole, cut_first}
 use Rattle.surf_top.proofs.reasons.put_words.Goals as goal

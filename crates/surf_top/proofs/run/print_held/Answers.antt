@@ -1,4 +1,4 @@
-use Rattle.std.proofs.Common.{ℕ, ◌<◌, length, All, sym, ◌∙◌, subst}
+use Rattle.std.proofs.Common.{◌<◌, length, All, sym, ◌∙◌, subst}
 use Rattle.surf_base.specs.declared.outside.WriteFault.{WriteFault}
 use Rattle.surf_base.specs.Emits.{Emits}
 use Rattle.surf_base.proofs.EmitLemmas.{after_whole, cut_first}

@@ -1,4 +1,3 @@
-use Rattle.surf_base.specs.Emits.{Emits}
 use Rattle.surf_rules.specs.Names.{text_of}
 use Rattle.surf_pick.specs.Draws.{words_of}
 use Rattle.surf_top.specs.Prints.{placed_text}
