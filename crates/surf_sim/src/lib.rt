@@ -2,12 +2,13 @@
 //!
 //! A [`Sim`] draws events one after another. Each is the choice, in the order of
 //! `specs/Simulations.antt`, of a number that is drawn below the sum of the rates; so a seed fixes
-//! all of them. After an event only the weights of its sites and of their neighbours are set, at
-//! most fourteen. [`simulation_laws`] says what the events of a seed are: a run, which ends early
-//! only where nothing can happen, and the same under other names.
+//! all of them. After an event only the weights of its sites and of their neighbours are set, each
+//! at most once, and at most fourteen. [`simulation_laws`] says what the events of a seed are: a
+//! run, which ends early only where nothing can happen, and the same under other names.
 #![tactic(auto)]
 
 mod refresh;
+mod second;
 mod sim;
 mod theorems;
 

@@ -1,9 +1,11 @@
-ghost use Rattle.std.specs.Prelude.{◌≡◌, ◌≤◌, ◌<◌, ◌+◌, ◌^◌, IfSome, flat_map, slice_set, sum, IfOk};
+ghost use Rattle.std.specs.Prelude.{◌≡◌, ◌≤◌, ◌<◌, ◌+◌, ◌^◌, IfSome, length, slice_set, sum, IfOk};
 ghost use Rattle.std.specs.Option.{option_to_list};
 ghost use Rattle.surf_lattice.specs.Grids.{IsInside, place};
 ghost use Rattle.surf_world.specs.Picks.{weight_of, weights_of, around, around_event, refreshed};
 ghost use Rattle.surf_sim.specs.Simulations.{AreWeights};
+ghost use Rattle.surf_sim.specs.Touched.{touched, AreRight};
 
+use crate::second::refresh_second;
 use std::alloc::Global;
 use surf_base::NoMemory;
 use surf_lattice::{Lattice, Site};
@@ -25,29 +27,18 @@ pub(crate) fn weights<L: Lattice>(alloc: Global, world: &World<L>) -> Result<Vec
     Ok(weights)
 }
 
-/// Sets the weights of the sites of an event and of their neighbours anew.
+/// Sets the weights of the sites of an event and of their neighbours anew, each once.
 pub(crate) fn refresh_event<L: Lattice, P: Picker>(world: &World<L>, picker: &mut P, event: &Event)
     requires first { IsInside world.now.surface.grid event.now.first }
     requires second { IfSome event.now.second (IsInside world.now.surface.grid) }
     requires weights { AreWeights world.now.surface.grid (P.weights picker.old) }
     ensures set { P.weights picker.new ≡ refreshed world.now.surface world.now.names (around_event world.now.surface.grid event.now) (P.weights picker.old) }
     ensures weights { AreWeights world.now.surface.grid (P.weights picker.new) }
+    ensures once { P.sets picker.new ≤ P.sets picker.old + length (touched world.now.surface.grid event.now) }
     ensures sets { P.sets picker.new ≤ P.sets picker.old + 14 }
 {
     refresh_around(world, picker, event.first);
-    refresh_second(world, picker, event.second);
-}
-
-fn refresh_second<L: Lattice, P: Picker>(world: &World<L>, picker: &mut P, site: Option<Site>)
-    requires site { IfSome site (IsInside world.now.surface.grid) }
-    requires weights { AreWeights world.now.surface.grid (P.weights picker.old) }
-    ensures set { P.weights picker.new ≡ refreshed world.now.surface world.now.names (flat_map (around world.now.surface.grid) (option_to_list site)) (P.weights picker.old) }
-    ensures weights { AreWeights world.now.surface.grid (P.weights picker.new) }
-    ensures sets { P.sets picker.new ≤ P.sets picker.old + 7 }
-{
-    if let Some(site) = site {
-        refresh_around(world, picker, site);
-    }
+    refresh_second(world, picker, event.first, event.second);
 }
 
 fn refresh_around<L: Lattice, P: Picker>(world: &World<L>, picker: &mut P, site: Site)
@@ -55,7 +46,8 @@ fn refresh_around<L: Lattice, P: Picker>(world: &World<L>, picker: &mut P, site:
     requires weights { AreWeights world.now.surface.grid (P.weights picker.old) }
     ensures set { P.weights picker.new ≡ refreshed world.now.surface world.now.names (around world.now.surface.grid site) (P.weights picker.old) }
     ensures weights { AreWeights world.now.surface.grid (P.weights picker.new) }
-    ensures sets { P.sets picker.new ≤ P.sets picker.old + 7 }
+    ensures right { AreRight world.now.surface world.now.names (around world.now.surface.grid site) (P.weights picker.new) }
+    ensures sets { P.sets picker.new ≤ P.sets picker.old + length (around world.now.surface.grid site) }
 {
     refresh(world, picker, site);
     for direction in 0..world.grid().degree() {
@@ -68,14 +60,14 @@ fn refresh_some<L: Lattice, P: Picker>(world: &World<L>, picker: &mut P, site: O
     requires weights { AreWeights world.now.surface.grid (P.weights picker.old) }
     ensures set { P.weights picker.new ≡ refreshed world.now.surface world.now.names (option_to_list site) (P.weights picker.old) }
     ensures weights { AreWeights world.now.surface.grid (P.weights picker.new) }
-    ensures sets { P.sets picker.new ≤ P.sets picker.old + 1 }
+    ensures sets { P.sets picker.new ≤ P.sets picker.old + length (option_to_list site) }
 {
     if let Some(site) = site {
         refresh(world, picker, site);
     }
 }
 
-fn refresh<L: Lattice, P: Picker>(world: &World<L>, picker: &mut P, site: Site)
+pub(crate) fn refresh<L: Lattice, P: Picker>(world: &World<L>, picker: &mut P, site: Site)
     requires site { IsInside world.now.surface.grid site }
     requires weights { AreWeights world.now.surface.grid (P.weights picker.old) }
     ensures set { P.weights picker.new ≡ slice_set (P.weights picker.old) (place world.now.surface.grid site) (weight_of world.now.surface world.now.names site) }

@@ -1,7 +1,8 @@
-ghost use Rattle.std.specs.Prelude.{◌≡◌, ◌≤◌, ◌+◌, IfOk, IfNone, IfSome};
+ghost use Rattle.std.specs.Prelude.{◌≡◌, ◌≤◌, ◌+◌, IfOk, IfNone, IfSome, length};
 ghost use Rattle.surf_world.specs.Systems.{Enabled, Stuck};
 ghost use Rattle.surf_world.specs.Picks.{weights_of};
 ghost use Rattle.surf_sim.specs.Simulations.{IsStep};
+ghost use Rattle.surf_sim.specs.Touched.{touched};
 
 use crate::refresh::{refresh_event, weights};
 use std::alloc::Global;
@@ -64,11 +65,13 @@ impl<L: Lattice, P: Picker> Sim<L, P> {
     }
 
     /// Draws the next event, applies and answers it. It is `None` exactly where the world is
-    /// stuck, and then nothing changes. Takes no memory, and sets at most 14 weights.
+    /// stuck, and then nothing changes. Takes no memory, and sets the weights of the event's sites
+    /// and of their neighbours, at most 14, each at most once.
     pub fn step(&mut self) -> Option<Event>
         ensures step { IsStep self.old self.new result }
         ensures enabled { IfSome result (Enabled self.old.placed.surface self.old.placed.names) }
         ensures stuck { IfNone result (Stuck self.old.placed.surface self.old.placed.names) }
+        ensures once { IfSome result (λ e. self.new.sets ≤ self.old.sets + length (touched self.old.placed.surface.grid e)) }
         ensures few { self.new.sets ≤ self.old.sets + 14 }
     {
         let total = self.picker.total();

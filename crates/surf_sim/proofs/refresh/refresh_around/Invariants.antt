@@ -1,4 +1,4 @@
-use Rattle.std.proofs.Common.{◌≡◌, ◌≤◌, ◌+◌, ◌∷◌}
+use Rattle.std.proofs.Common.{◌≡◌, ◌≤◌, ◌+◌, ◌∷◌, length}
 use Rattle.std.specs.List.{filter_map, range_with_len}
 use Rattle.surf_lattice.specs.Grids.{neighbour}
 use Rattle.surf_world.specs.Picks.{refreshed}
@@ -9,5 +9,5 @@ abbrev pub invariant-loop-direction : goal.invariant-loop-direction
 invariant-loop-direction g l = record {
   set : g.P.Picker.weights l.picker ≡ refreshed l.world.surface l.world.names (l.site ∷ filter_map (neighbour l.world.surface.grid l.site) (range_with_len 0 l.direction)) (g.P.Picker.weights l.fn.picker);
   weights : AreWeights l.world.surface.grid (g.P.Picker.weights l.picker);
-  sets : g.P.Picker.sets l.picker ≤ g.P.Picker.sets l.fn.picker + 1 + l.direction;
+  sets : g.P.Picker.sets l.picker ≤ g.P.Picker.sets l.fn.picker + 1 + length (filter_map (neighbour l.world.surface.grid l.site) (range_with_len 0 l.direction));
 }
