@@ -32,11 +32,7 @@ fn automata_take_steps(rt: HostRuntime) -> Result<(), Fail> {
             "x = 2, y = 2, rule = B/S012345H\n2o$\n# between\nbo! rest",
             "1 1\n0 1\n",
         ),
-        (
-            "step 3",
-            "x = 1, y = 4, rule = B1/SV\no!",
-            "0\n1\n0\n1\n",
-        ),
+        ("step 3", "x = 1, y = 4, rule = B1/SV\no!", "0\n1\n0\n1\n"),
         (
             "step 0",
             "x = 4, y = 3, rule = B/SV\nbo$2$\n3bo4294967295b4294967295$!",
@@ -45,7 +41,10 @@ fn automata_take_steps(rt: HostRuntime) -> Result<(), Fail> {
     ] {
         let input = joined(rt.alloc(), &[text])?;
         let answer = call(rt.alloc(), words, &input, calm())?;
-        assert!(rt; answer.status == 0 && answer.notes.is_empty(), "{words} {text}");
+        assert!(rt;
+            answer.status == 0 && answer.notes.is_empty(),
+            "{words} {text}"
+        );
         assert_eq!(rt; answer.out.as_slice(), out.as_bytes(), "{words} {text}");
     }
     Ok(())
@@ -110,7 +109,10 @@ fn patterns_are_refused(rt: HostRuntime) -> Result<(), Fail> {
         ("x = 1, y = 1, rule = B/SV\n3!", "bad-item 2"),
         ("x = 0, y = 1, rule = B/SV\n!", "empty-grid"),
         ("x = 1, y = 0, rule = B/SV\n!", "empty-grid"),
-        ("x = 1001, y = 1000, rule = B/SV\n!", "grid-too-large 1001000"),
+        (
+            "x = 1001, y = 1000, rule = B/SV\n!",
+            "grid-too-large 1001000",
+        ),
         (
             "x = 4294967295, y = 4294967295, rule = B/SH\n!",
             "grid-too-large 18446744065119617025",
@@ -134,7 +136,11 @@ fn tables_are_refused(rt: HostRuntime) -> Result<(), Fail> {
         (THREE, "", ""),
         ("automaton 1\n", "degree 5\n", "bad-table 2"),
         ("automaton 1\ndegree 4\n\n", "states 257\n", "bad-table 4"),
-        ("automaton 1\ndegree 4\nstates 2\nedge 1\n", "weights 0 256\n", "bad-table 5"),
+        (
+            "automaton 1\ndegree 4\nstates 2\nedge 1\n",
+            "weights 0 256\n",
+            "bad-table 5",
+        ),
         (
             "automaton 1\ndegree 4\nstates 2\nedge 1\nweights 0 1\nnext 0 0 0 0 0 0\n",
             "next 0 0 0 0 0 0\n",

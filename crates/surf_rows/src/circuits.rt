@@ -105,14 +105,30 @@ fn an_adder_adds(rt: HostRuntime) -> Result<(), Fail> {
 #[test]
 fn circuits_are_refused(rt: HostRuntime) -> Result<(), Fail> {
     for (head, tail, note) in [
-        (".inputs a\n.outputs o\n", ".names a o\n0 1\n1 0\n", "mixed-cover 5"),
-        (".inputs a\n.outputs o\n", ".names a o\n1 0\n\n# x\n0 1", "mixed-cover 7"),
-        (".inputs a\n.outputs o\n", ".names a o\n01 1\n", "bad-cover 4"),
+        (
+            ".inputs a\n.outputs o\n",
+            ".names a o\n0 1\n1 0\n",
+            "mixed-cover 5",
+        ),
+        (
+            ".inputs a\n.outputs o\n",
+            ".names a o\n1 0\n\n# x\n0 1",
+            "mixed-cover 7",
+        ),
+        (
+            ".inputs a\n.outputs o\n",
+            ".names a o\n01 1\n",
+            "bad-cover 4",
+        ),
         (".inputs a\n.outputs o\n", ".names a o\n1\n", "bad-cover 4"),
         (".inputs a\n.outputs o\n", ".names a o\n1 2", "bad-cover 4"),
         (".inputs a\n.outputs o\n", ".names o\n1 1", "bad-cover 4"),
         (".inputs a\n.outputs o\n", ".names a o\nx 1", "bad-cover 4"),
-        (".inputs a\n.outputs o\n", ".names p o\n1 1\n.names o p\n1 1\n", "cycle o"),
+        (
+            ".inputs a\n.outputs o\n",
+            ".names p o\n1 1\n.names o p\n1 1\n",
+            "cycle o",
+        ),
         (".inputs a\n.outputs o\n", ".names o o\n1 1\n", "cycle o"),
         (
             ".inputs a\n.outputs o\n",
@@ -128,7 +144,11 @@ fn circuits_are_refused(rt: HostRuntime) -> Result<(), Fail> {
             ".names a o\n1 1\n.names o\n",
             "driven-twice o",
         ),
-        (".inputs a\n.outputs o\n", ".names o a\n.names z o\n", "driven-twice a"),
+        (
+            ".inputs a\n.outputs o\n",
+            ".names o a\n.names z o\n",
+            "driven-twice a",
+        ),
         (
             ".inputs a\n.outputs o\n",
             ".gate inv A=a O=o\n",
@@ -143,7 +163,11 @@ fn circuits_are_refused(rt: HostRuntime) -> Result<(), Fail> {
         (".inputs a\n", ".outputs\n", "no-outputs"),
         ("", "", "no-outputs"),
         (".inputs a\n", ".outputs a a\n", "declared-twice a"),
-        (".inputs a b\n", ".inputs b\n.outputs a a\n", "declared-twice b"),
+        (
+            ".inputs a b\n",
+            ".inputs b\n.outputs a a\n",
+            "declared-twice b",
+        ),
         (".inputs a\n.outputs o\n", ".names\n", "bad-line 3"),
         (".inputs a\n.outputs o\n", "1 1\n", "bad-line 3"),
         (".names o\n.inputs a\n", "1\n", "bad-line 3"),
