@@ -9,11 +9,11 @@ use Rattle.surf_logic.specs.Equations.{EquationOf, Numbered, at}
 use Rattle.surf_logic.specs.Order.{has, first_twice, first_missing, outputs_of, inputs_of, list_fault, or_else, InRange, EquationInRange, is_ready}
 use Rattle.surf_logic.specs.Marks.{Marks, twice_by, missing_by, marked, flags_fault, undriven_by, ready_by}
 
-or_false : (b : Bool) → (b || false) ≡ b
+pub or_false : (b : Bool) → (b || false) ≡ b
 or_false true = refl
 or_false false = refl
 
-or_assoc : (a b c : Bool) → ((a || b) || c) ≡ (a || (b || c))
+pub or_assoc : (a b c : Bool) → ((a || b) || c) ≡ (a || (b || c))
 or_assoc true b c = refl
 or_assoc false b c = refl
 
@@ -28,7 +28,7 @@ has_append [] ys n = refl
 has_append (x ∷ xs) ys n = ap (λ b. nat_eq n x || b) (has_append xs ys n) ∙ sym (or_assoc (nat_eq n x) (has nat_eq xs n) (has nat_eq ys n))
 
 -- a flag after one was put up
-set_at : (flags : List Bool) (m n : ℕ) → m < length flags → at (set flags m true) n ≡ (nat_eq n m || at flags n)
+pub set_at : (flags : List Bool) (m n : ℕ) → m < length flags → at (set flags m true) n ≡ (nat_eq n m || at flags n)
 set_at flags m n lt = ⊎_elim
     (λ t. both_true (at (set flags m true) n) (nat_eq n m) (at flags n) (ap (at (set flags m true)) (eqb-true n m t) ∙ get_or-set_same flags m true false lt) t)
     (λ f. let ne : n ≢ m = eqb-false n m f in get_or-set_other flags m n true false ne ∙ ap (λ b. b || at flags n) (sym f))
@@ -37,7 +37,7 @@ set_at flags m n lt = ⊎_elim
 pub marks_more : (flags : List Bool) (known : List ℕ) (m : ℕ) → Marks flags known → m < length flags → Marks (set flags m true) (m ∷ known)
 marks_more flags known m k lt = record { is = λ n h. set_at flags m n lt ∙ ap (λ b. nat_eq n m || b) (k.is n (omega (arith, length-set flags m true))) }
 
-within_set : (flags : List Bool) (m : ℕ) (ns : List ℕ) → All (λ n. n < length flags) ns → All (λ n. n < length (set flags m true)) ns
+pub within_set : (flags : List Bool) (m : ℕ) (ns : List ℕ) → All (λ n. n < length flags) ns → All (λ n. n < length (set flags m true)) ns
 within_set flags m ns h = subst (λ k. All (λ n. n < k) ns) (sym (length-set flags m true)) h
 
 pub twice_is : (flags : List Bool) (known ns : List ℕ) → Marks flags known → All (λ n. n < length flags) ns → twice_by flags ns ≡ first_twice nat_eq known ns

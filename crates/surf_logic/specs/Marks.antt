@@ -1,11 +1,11 @@
 -- The same by flags: a name is known where its flag is up.
-use Rattle.std.specs.Prelude.{ℕ, ◌+◌, ◌≡◌, ◌<◌, Bool, true, false, List, [], ◌∷◌, length, ◌||◌, if◌then◌else◌, Option, Some, None, nat_eq, slice_set, slice_index_or, take}
+use Rattle.std.specs.Prelude.{ℕ, ◌+◌, ◌≡◌, ◌<◌, ◌≤◌, Bool, true, false, List, [], ◌∷◌, length, if◌then◌else◌, Option, Some, None, nat_eq, slice_set, slice_index_or, take, ◌++◌, replicate}
 use Rattle.std.specs.List.{list_all, list_any}
 use Rattle.std.specs.Option.{option_map}
 use Rattle.surf_logic.specs.declared.faults.Flaw.{Flaw}
 use Rattle.surf_logic.specs.declared.faults.Flaw.TheVariants as flaws
 use Rattle.surf_logic.specs.Equations.{EquationOf, PartsOf, at}
-use Rattle.surf_logic.specs.Order.{has, outputs_of, inputs_of, or_else, no_outputs, Fault, DeclaredTwice, DrivenTwice, Undriven, NoOutputs, Cycle, DependsOn}
+use Rattle.surf_logic.specs.Order.{has, outputs_of, inputs_of, or_else, is_from, no_outputs, Fault, DeclaredTwice, DrivenTwice, Undriven, NoOutputs, Cycle, DependsOn}
 
 -- the flags that are up are those of the names
 pub record Marks (flags : List Bool) (names : List ℕ) : Type 0 where
@@ -31,6 +31,18 @@ pub record ReadyAt (flags : List Bool) (qs : List (EquationOf ℕ)) (i : ℕ) : 
   pub within : i < length qs
   pub waiting : list_any (ready_by flags) (take i qs) ≡ false
   pub ready : (q : EquationOf ℕ) → ready_by flags (slice_index_or qs i q) ≡ true
+
+-- so many of the first names are known
+pub record IsPassed (flags : List Bool) (names : List ℕ) (count : ℕ) : Type 0 where
+  pub within : count ≤ length names
+  pub known : list_all (at flags) (take count names) ≡ true
+
+-- so many of each equation's first inputs are
+abbrev pub ArePassed : List Bool → List (EquationOf ℕ) → List ℕ → Type 0
+ArePassed flags [] [] = Unit {0}
+ArePassed flags [] (count ∷ counts) = ⊥
+ArePassed flags (q ∷ qs) [] = ⊥
+ArePassed flags (q ∷ qs) (count ∷ counts) = IsPassed flags q.inputs count × ArePassed flags qs counts
 
 abbrev pub fault_of : Flaw → Fault ℕ
 fault_of (flaws.DeclaredTwice n) = DeclaredTwice n
@@ -58,14 +70,22 @@ FlawIn count (flaws.Undriven n) = n < count
 FlawIn count flaws.NoOutputs = Unit {0}
 FlawIn count (flaws.Cycle n) = n < count
 
--- the inputs are up where the output is the name or is up
-abbrev pub closed_by : List Bool → ℕ → EquationOf ℕ → Bool
-closed_by flags name q = if nat_eq q.output name || at flags q.output then list_all (at flags) q.inputs else true
+-- the names whose flags are down, each once
+abbrev pub fresh : List Bool → List ℕ → List ℕ
+fresh flags [] = []
+fresh flags (n ∷ ns) = if at flags n then fresh flags ns else n ∷ fresh (slice_set flags n true) ns
 
--- an equation that isn't closed stands at i
-pub record OpenAt (flags : List Bool) (name : ℕ) (qs : List (EquationOf ℕ)) (i : ℕ) : Type 0 where
-  pub within : i < length qs
-  pub not_closed : (q : EquationOf ℕ) → closed_by flags name (slice_index_or qs i q) ≡ false
+-- beside each name the names that it is given from
+pub record AreSources (qs : List (EquationOf ℕ)) (sources : List (List ℕ)) : Type 0 where
+  pub is : (n m : ℕ) → n < length sources → has nat_eq (slice_index_or sources n []) m ≡ list_any (is_from nat_eq n m) qs
+
+-- the sources with those of one equation more, and of all in a list
+abbrev pub added : List (List ℕ) → EquationOf ℕ → List (List ℕ)
+added sources q = slice_set sources q.output (slice_index_or sources q.output [] ++ fresh (replicate (length sources) false) q.inputs)
+
+abbrev pub all_added : List (List ℕ) → List (EquationOf ℕ) → List (List ℕ)
+all_added sources [] = sources
+all_added sources (q ∷ qs) = all_added (added sources q) qs
 
 -- the answer whether the name depends on itself
 abbrev pub Tells : List (EquationOf ℕ) → ℕ → Bool → Type 0

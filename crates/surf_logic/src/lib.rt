@@ -12,6 +12,8 @@ mod cycles;
 mod equation;
 mod faults;
 mod laws;
+mod ready;
+mod sources;
 #[cfg(test)]
 mod tests;
 mod turns;

@@ -1,9 +1,9 @@
 // The order of equations by turns.
 ghost use Rattle.std.specs.Prelude.{◌≡◌, ◌<◌, ℕ, Bool, List, [], false, length, IfOk, IfNone, IfSome, MatchResult, nat_eq, None, Some};
-ghost use Rattle.std.specs.List.{All, list_all, list_any};
-ghost use Rattle.surf_logic.specs.Equations.{EquationOf, Numbered, at};
+ghost use Rattle.std.specs.List.{All};
+ghost use Rattle.surf_logic.specs.Equations.{EquationOf, Numbered};
 ghost use Rattle.surf_logic.specs.Order.{EquationInRange, FirstCyclic, InRange, IsOrderOf, SomeCyclic, Turns, first_twice, list_fault, outputs_of};
-ghost use Rattle.surf_logic.specs.Marks.{FlawIn, Marks, ReadyAt, fault_of, ready_by};
+ghost use Rattle.surf_logic.specs.Marks.{ArePassed, FlawIn, Marks, fault_of};
 ghost use Rattle.surf_logic.specs.Answers.{HasCircuitFault, TellsCycle, map_fault, told_fault};
 ghost use Rattle.surf_rules.specs.Names.{text_of};
 
@@ -11,6 +11,7 @@ use crate::circuit::Circuit;
 use crate::cycles::first_cyclic;
 use crate::equation::{Equation, Parts};
 use crate::faults::{Flaw, list_flaw, mark};
+use crate::ready::first_ready;
 use std::alloc::Global;
 use surf_base::{NoMemory, Text};
 use surf_rules::Names;
@@ -72,35 +73,6 @@ fn told(alloc: Global, names: &Names, flaw: Flaw) -> CircuitError
     }
 }
 
-// Whether the flags of all the names are up.
-fn is_known(known: &[bool], names: &[u32]) -> bool
-    requires { All (λ n. n < length known.now) names.now }
-    ensures { result ≡ list_all (at known.now) names.now }
-{
-    for name in names {
-        if !known[*name as usize] {
-            return false;
-        }
-    }
-    true
-}
-
-// The place of the first equation that is ready.
-fn first_ready(known: &[bool], rest: &[Equation]) -> Option<usize>
-    requires { All (EquationInRange (length known.now)) rest.now }
-    ensures some { IfSome result (ReadyAt known.now rest.now) }
-    ensures none { IfNone result (list_any (ready_by known.now) rest.now ≡ false) }
-{
-    let mut i = 0;
-    while i < rest.len() {
-        if is_known(known, rest[i].inputs()) {
-            return Some(i);
-        }
-        i += 1;
-    }
-    None
-}
-
 // Takes equations in turns until none is ready, and leaves the others. The flags of the names are up at first.
 fn take_turns(
     alloc: Global,
@@ -113,9 +85,29 @@ fn take_turns(
     ensures turns { IfOk result (λ taken. Turns nat_eq names.now rest.old.items taken.items rest.new.items) }
     ensures range { IfOk result (λ _. All (EquationInRange (length known.old)) rest.new.items) }
 {
+    let mut passed = vec![in alloc; 0; rest.len()].map_err(|_| NoMemory)?;
+    turns_by(alloc, names, known, rest, &mut passed)
+}
+
+// The same. So many of each equation's first inputs are known as `passed` says: a turn looks at no
+// input that an earlier one found to be known.
+fn turns_by(
+    alloc: Global,
+    names: &[u32],
+    known: &mut [bool],
+    rest: &mut Vec<Equation>,
+    passed: &mut Vec<usize>,
+) -> Result<Vec<Equation>, NoMemory>
+    requires range { All (EquationInRange (length known.old)) rest.old.items }
+    requires marks { Marks known.old names.now }
+    requires passed { ArePassed known.old rest.old.items passed.old.items }
+    ensures turns { IfOk result (λ taken. Turns nat_eq names.now rest.old.items taken.items rest.new.items) }
+    ensures range { IfOk result (λ _. All (EquationInRange (length known.old)) rest.new.items) }
+{
     let mut taken = Vec::new(alloc);
-    while let Some(place) = first_ready(known, rest) {
+    while let Some(place) = first_ready(known, rest, passed) {
         let equation = rest.remove(place);
+        passed.remove(place);
         known[equation.output() as usize] = true;
         taken.push(equation).map_err(|_| NoMemory)?;
     }

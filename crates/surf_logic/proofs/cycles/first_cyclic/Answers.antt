@@ -1,34 +1,37 @@
-use Rattle.std.proofs.Common.{rules, ◌≡◌, ◌<◌, ◌≤◌, length, nat_eq, false, true, get_or, subst, sym, take}
-use Rattle.std.proofs.lemmas.List.{take_all}
-use Rattle.surf_logic.specs.Order.{DependsOn, FirstCyclic, outputs_of}
-use Rattle.surf_logic.specs.Marks.{Tells}
-use Rattle.surf_logic.proofs.Cycling.{NoneCyclic, none_all, none_more, first_is}
+use Rattle.std.proofs.Common.{rules, ◌≡◌, ◌<◌, ℕ, List, [], length, IfOk, sym, ◌∙◌, subst}
+use Rattle.std.specs.List.{All}
+use Rattle.std.proofs.Math.ListN.{replicate}
+use Rattle.std.proofs.lemmas.List.{length-replicate}
+use Rattle.surf_logic.specs.Order.{EquationInRange}
+use Rattle.surf_logic.specs.Marks.{AreSources, all_added}
+use Rattle.surf_logic.proofs.Gathering.{all_length, sources_are, sources_in}
 use Rattle.surf_logic.proofs.cycles.first_cyclic.Goals as goal
 
-pub returns-then-depends_on_itself-clause-first : goal.returns-then-depends_on_itself-clause-first
-returns-then-depends_on_itself-clause-first c =
-    let left = c.args.left.now in
-    let q = c.equation-item.result in
-    let i = c.loop-equation.equation-index in
-    let tells : Tells left c.output-name.result true = subst (Tells left c.output-name.result) c.if-depends_on_itself.true c.depends_on_itself.ensures in
-    let lt : i < length left = search rules in
-    let is : q ≡ get_or left i q = search rules in
-    subst (FirstCyclic nat_eq left (outputs_of left)) (sym c.output-name.ensures)
-    (first_is left left i q lt is c.loop-equation.invariant (subst (λ v. DependsOn nat_eq left v v) c.output-name.ensures tells))
+pub first_by-requires-clause-left : goal.first_by-requires-clause-left
+first_by-requires-clause-left c =
+    let none : List ℕ = [] in
+    let made : c.deref.result.now ≡ all_added (replicate c.args.count none) c.args.left.now = search rules in
+    let long : length (all_added (replicate c.args.count none) c.args.left.now) ≡ c.args.count = all_length (replicate c.args.count none) c.args.left.now ∙ length-replicate c.args.count none in
+    subst (λ v. All (EquationInRange (length v)) c.args.left.now) (sym made) (subst (λ k. All (EquationInRange k) c.args.left.now) (sym long) c.requires.range)
 
-pub loop-equation-preserved : goal.loop-equation-preserved
-loop-equation-preserved c =
-    let left = c.args.left.now in
-    let q = c.equation-item.result in
-    let i = c.loop-equation.equation-index in
-    let tells : Tells left c.output-name.result false = subst (Tells left c.output-name.result) c.if-depends_on_itself.false c.depends_on_itself.ensures in
-    let lt : i < length left = search rules in
-    let is : q ≡ get_or left i q = search rules in
-    none_more left left i q lt is c.loop-equation.invariant (subst (λ v. DependsOn nat_eq left v v → ⊥) c.output-name.ensures tells)
+pub first_by-requires-clause-sources : goal.first_by-requires-clause-sources
+first_by-requires-clause-sources c =
+    let none : List ℕ = [] in
+    let made : c.deref.result.now ≡ all_added (replicate c.args.count none) c.args.left.now = search rules in
+    subst (AreSources c.args.left.now) (sym made) (sources_are c.args.count c.args.left.now c.requires.range)
 
-pub unreachable-requires : goal.unreachable-requires
-unreachable-requires c =
-    let left = c.args.left.now in
-    let end : length left ≤ c.loop-equation.equation-index = c.loop-equation-test.false in
-    let all : take c.loop-equation.equation-index left ≡ left = take_all c.loop-equation.equation-index left end in
-    c.requires.some (none_all left left (subst (NoneCyclic left) all c.loop-equation.invariant))
+pub first_by-requires-clause-range : goal.first_by-requires-clause-range
+first_by-requires-clause-range c =
+    let none : List ℕ = [] in
+    let made : c.deref.result.now ≡ all_added (replicate c.args.count none) c.args.left.now = search rules in
+    let long : length (all_added (replicate c.args.count none) c.args.left.now) ≡ c.args.count = all_length (replicate c.args.count none) c.args.left.now ∙ length-replicate c.args.count none in
+    subst (λ (v : List (List ℕ)). All (All (λ n. n < length v)) v) (sym made)
+    (sources_in c.args.left.now (all_added (replicate c.args.count none) c.args.left.now) (subst (λ k. All (EquationInRange k) c.args.left.now) (sym long) c.requires.range) (sources_are c.args.count c.args.left.now c.requires.range))
+
+pub returns-clause-within : goal.returns-clause-within
+returns-clause-within c =
+    let none : List ℕ = [] in
+    let made : c.deref.result.now ≡ all_added (replicate c.args.count none) c.args.left.now = search rules in
+    let long : length (all_added (replicate c.args.count none) c.args.left.now) ≡ c.args.count = all_length (replicate c.args.count none) c.args.left.now ∙ length-replicate c.args.count none in
+    let here : IfOk c.first_by.result (λ n. n < length c.deref.result.now) = search rules in
+    subst (λ k. IfOk c.first_by.result (λ n. n < k)) long (subst (λ (v : List (List ℕ)). IfOk c.first_by.result (λ n. n < length v)) made here)
