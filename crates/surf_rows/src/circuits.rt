@@ -38,6 +38,17 @@ fn circuits_are_evaluated(rt: HostRuntime) -> Result<(), Fail> {
             ".inputs a u\n.outputs o k z\n.names a a o\n11 1\n.names z\n.names k\n0\n",
             "o 1\nk 0\nz 0\n",
         ),
+        // equations in reverse, with inputs that come again
+        (
+            "eval 1",
+            ".inputs a\n.outputs x0\n.names x1 x1 x1 x0\n111 1\n.names x2 a x2 x1\n1-1 1\n.names a a x2\n11 1\n",
+            "x0 1\n",
+        ),
+        (
+            "eval 0",
+            ".inputs a\n.outputs x0\n.names x1 x1 x1 x0\n111 1\n.names x2 a x2 x1\n1-1 1\n.names a a x2\n11 1\n",
+            "x0 0\n",
+        ),
         // the second equation comes first; rows of don't-cares; what follows the model
         (
             "eval 01",
@@ -134,6 +145,22 @@ fn circuits_are_refused(rt: HostRuntime) -> Result<(), Fail> {
             ".inputs a\n.outputs o\n",
             ".names a o\n1 1\n.names r q\n.names q r\n1 1\n",
             "cycle q",
+        ),
+        // an equation that leads to a cycle and is on none goes before it; two cycles; a long one
+        (
+            ".inputs a\n.outputs o\n",
+            ".names q a q o\n1-1 1\n.names r q\n1 1\n.names q r\n1 1\n",
+            "cycle q",
+        ),
+        (
+            ".inputs a\n.outputs o\n",
+            ".names y o\n.names x y\n.names q a p\n.names p q\n.names y x\n",
+            "cycle y",
+        ),
+        (
+            ".inputs a\n.outputs o\n",
+            ".names p a o\n.names q a p\n.names r a q\n.names o a r\n",
+            "cycle o",
         ),
         (".inputs a\n.outputs o\n", ".names z o\n1 1\n", "undriven z"),
         (".inputs a\n.outputs o\n", ".names z o\n", "undriven z"),
