@@ -69,12 +69,9 @@ fn circuits_are_evaluated(rt: HostRuntime) -> Result<(), Fail> {
     Ok(())
 }
 
-fn bit_at(number: usize, place: usize) -> usize {
-    (number >> place) & 1
-}
-
-fn bit_word(number: usize, place: usize) -> &'static str {
-    if bit_at(number, place) == 1 { "1" } else { "0" }
+// The bit of this weight, 1, 2 or 4.
+fn bit_word(number: usize, weight: usize) -> &'static str {
+    if number & weight == 0 { "0" } else { "1" }
 }
 
 #[test]
@@ -86,10 +83,10 @@ fn an_adder_adds(rt: HostRuntime) -> Result<(), Fail> {
                 rt.alloc(),
                 &[
                     "eval ",
-                    bit_word(a, 0),
                     bit_word(a, 1),
-                    bit_word(b, 0),
+                    bit_word(a, 2),
                     bit_word(b, 1),
+                    bit_word(b, 2),
                 ],
             )?;
             let sum = a + b;
@@ -97,11 +94,11 @@ fn an_adder_adds(rt: HostRuntime) -> Result<(), Fail> {
                 rt.alloc(),
                 &[
                     "s[0] ",
-                    bit_word(sum, 0),
-                    "\ns[1] ",
                     bit_word(sum, 1),
-                    "\n$abc$12$n7 ",
+                    "\ns[1] ",
                     bit_word(sum, 2),
+                    "\n$abc$12$n7 ",
+                    bit_word(sum, 4),
                     "\n",
                 ],
             )?;
