@@ -32,7 +32,7 @@ fn automata_take_steps(rt: HostRuntime) -> Result<(), Fail> {
             "x = 2, y = 2, rule = B/S012345H\n2o$\n# between\nbo! rest",
             "1 1\n0 1\n",
         ),
-        ("step 3", "x = 1, y = 4, rule = B1/SV\no!", "0\n1\n0\n1\n"),
+        ("step 3", "x = 1, y = 4, rule = B1/SV\no!", "0\n0\n0\n1\n"),
         (
             "step 0",
             "x = 4, y = 3, rule = B/SV\nbo$$\n3bo4294967295b4294967295$!",
