@@ -15,8 +15,6 @@ mod room;
 mod rows;
 mod rules;
 mod settings;
-#[cfg(test)]
-mod tests;
 
 pub use laws::{print_is_kept, print_is_read};
 pub use legend::{Legend, Place};
