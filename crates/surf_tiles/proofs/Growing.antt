@@ -1,5 +1,9 @@
 -- Lists of texts that grow keep what their numbers name.
-use Rattle.std.proofs.Common.{ℕ, zero, suc, ◌≡◌, ◌+◌, ◌*◌, ◌^◌, ◌<◌, ◌≤◌, List, [], ◌∷◌, ◌++◌, length, take, refl, sym, ap, subst, ◌∙◌, arith, Bool, true, false, Option, Some, None, slice_get, if◌then◌else◌, length-append, Result, Ok, Err, OnOk, OnErr}
+use Rattle.std.proofs.Common.{ℕ, zero, suc, ◌≡◌, ◌+◌, ◌*◌, ◌^◌, ◌<◌, ◌≤◌, List, [], ◌∷◌, ◌++◌, length, take, refl, sym, ap, subst, ◌∙◌, arith, Bool, true, false, Option, Some, None, slice_get, if◌then◌else◌, length-append, Result, Ok, Err, OnOk, OnErr, All, inl, inr}
+use Rattle.std.proofs.lemmas.Bool.{cases_lt}
+use Rattle.std.proofs.lemmas.List.{take_all}
+use Rattle.surf_tiles.specs.declared.state.State.{State}
+use Rattle.surf_tiles.specs.States.{spell}
 use Rattle.surf_tiles.specs.Reactions.{reactions}
 use Rattle.std.specs.List.{list_any}
 use Rattle.std.specs.Option.{option_and_then}
@@ -16,23 +20,41 @@ front_kept [] us k lt = absurd (omega (arith, lt))
 front_kept (t ∷ ts) us zero lt = refl
 front_kept (t ∷ ts) us (suc k) lt = front_kept ts us k (omega (arith, lt))
 
-grown_if : (b : Bool) (ts : List (List ℕ)) (t : List ℕ) → IsGrown 1 ts (if b then ts else ts ++ t ∷ [])
-grown_if true ts t = record { longer = omega arith; most = omega arith; kept = λ k lt. refl }
-grown_if false ts t = record { longer = omega (arith, length-append ts (t ∷ [])); most = omega (arith, length-append ts (t ∷ [])); kept = λ k lt. front_kept ts (t ∷ []) k lt }
+back_is : (ts : List (List ℕ)) (t u : List ℕ) (k : ℕ) → length ts ≤ k → slice_get (ts ++ t ∷ []) k ≡ Some u → u ≡ t
+back_is [] t u zero le e = cc
+back_is [] t u (suc k) le e = absurd cc
+back_is (x ∷ ts) t u zero le e = absurd (omega (arith, le))
+back_is (x ∷ ts) t u (suc k) le e = back_is ts t u k (omega (arith, le)) e
+
+past : (ts : List (List ℕ)) (k : ℕ) (t : List ℕ) → length ts ≤ k → slice_get ts k ≡ Some t → ⊥
+past ts k t le is = let b = slice_get_within ts k t is in absurd (omega (arith, le, b))
+
+grown_if : (b : Bool) (ts : List (List ℕ)) (name : State) → IsGrown 1 ts (if b then ts else ts ++ spell name ∷ [])
+grown_if true ts name = record { longer = omega arith; most = omega arith; kept = λ k lt. refl; new = λ k t le is. absurd (past ts k t le is) }
+grown_if false ts name = record {
+  longer = omega (arith, length-append ts (spell name ∷ []));
+  most = omega (arith, length-append ts (spell name ∷ []));
+  kept = λ k lt. front_kept ts (spell name ∷ []) k lt;
+  new = λ k t le is. (name, back_is ts (spell name) t k le is);
+}
 
 pub not_grown : (n : ℕ) (a : List (List ℕ)) → IsGrown n a a
-not_grown n a = record { longer = omega arith; most = omega arith; kept = λ k lt. refl }
+not_grown n a = record { longer = omega arith; most = omega arith; kept = λ k lt. refl; new = λ k t le is. absurd (past a k t le is) }
 
--- an interned text
-pub interned : (r : Result ℕ NoMemory) (a b : List (List ℕ)) (t : List ℕ) → OnOk r (b ≡ with_text a t) → OnErr r (b ≡ a) → IsGrown 1 a b
-interned (Ok k) a b t ok err = subst (λ v. IsGrown 1 a v) (sym ok) (grown_if (list_any (bytes_eq t) a) a t)
-interned (Err e) a b t ok err = subst (λ v. IsGrown 1 a v) (sym err) (not_grown 1 a)
+-- an interned name
+pub interned : (r : Result ℕ NoMemory) (a b : List (List ℕ)) (t : List ℕ) (name : State) → t ≡ spell name → OnOk r (b ≡ with_text a t) → OnErr r (b ≡ a) → IsGrown 1 a b
+interned (Ok k) a b t name is ok err = subst (λ v. IsGrown 1 a v) (sym (ok ∙ ap (with_text a) is)) (grown_if (list_any (bytes_eq (spell name)) a) a name)
+interned (Err e) a b t name is ok err = subst (λ v. IsGrown 1 a v) (sym err) (not_grown 1 a)
 
 pub grown_then : (m n k : ℕ) (a b c : List (List ℕ)) → m + n ≤ k → IsGrown m a b → IsGrown n b c → IsGrown k a c
 grown_then m n k a b c le g h = record {
   longer = omega (arith, g.longer, h.longer);
   most = omega (arith, le, g.most, h.most);
   kept = λ i lt. h.kept i (omega (arith, lt, g.longer)) ∙ g.kept i lt;
+  new = λ i t low is. elim (cases_lt i (length b)) [
+    | inl lt ↦ g.new i t low (sym (h.kept i lt) ∙ is)
+    | inr past ↦ h.new i t past is
+  ];
 }
 
 pub at_kept : (n : ℕ) (a b : List (List ℕ)) (k : ℕ) (t : List ℕ) → IsGrown n a b → slice_get a k ≡ Some t → slice_get b k ≡ Some t
@@ -90,7 +112,7 @@ listed_room list count before texts rules h few lt =
 pub listed_end : (list : List Reaction) (count : ℕ) (before texts : List (List ℕ)) (rules : List Rule) → Listed list count before texts rules → count ≤ length list → IsGrown 366 before texts
 listed_end list count before texts rules h le =
     let n : length list ≡ 122 = ap length h.all ∙ count_of in
-    record { longer = h.grown.longer; most = omega (arith, n, le, h.grown.most); kept = h.grown.kept }
+    record { longer = h.grown.longer; most = omega (arith, n, le, h.grown.most); kept = h.grown.kept; new = h.grown.new }
 
 -- also where the next rule adds names and is not put
 pub listed_more : (list : List Reaction) (count : ℕ) (before texts more : List (List ℕ)) (rules : List Rule) → Listed list count before texts rules → count < length list → IsGrown 3 texts more → IsGrown 366 before more
@@ -104,3 +126,20 @@ listed_put list count before texts more rules rules' rule r h g says put next = 
   said = rw (put, next) (all_pushed more rules (take count list) rule r (all_kept 3 texts more rules _ g h.said) says);
   grown = grown_then (3 * count) 3 (3 * (count + 1)) before texts more (omega arith) h.grown g;
 }
+
+-- as many rules as reactions, of rate 1
+pub all_count : (texts : List (List ℕ)) (rules : List Rule) (rs : List Reaction) → SayAll texts rules rs → length rules ≡ length rs
+all_count texts [] [] h = refl
+all_count texts [] (r ∷ rs) h = absurd h
+all_count texts (rule ∷ rules) [] h = absurd h
+all_count texts (rule ∷ rules) (r ∷ rs) h = ap suc (all_count texts rules rs h.1)
+
+pub all_rates : (texts : List (List ℕ)) (rules : List Rule) (rs : List Reaction) → SayAll texts rules rs → All (λ r. r.rate ≤ 1000000000000) rules
+all_rates texts [] rs h k d lt = absurd (omega (arith, lt))
+all_rates texts (rule ∷ rules) [] h k d lt = absurd h
+all_rates texts (rule ∷ rules) (r ∷ rs) h zero d lt = omega (arith, h.0.rate)
+all_rates texts (rule ∷ rules) (r ∷ rs) h (suc k) d lt = all_rates texts rules rs h.1 k d (omega (arith, lt))
+
+-- at the end all are said
+pub listed_all : (list : List Reaction) (count : ℕ) (before texts : List (List ℕ)) (rules : List Rule) → Listed list count before texts rules → length list ≤ count → SayAll texts rules reactions
+listed_all list count before texts rules h le = subst (SayAll texts rules) (take_all count list le ∙ h.all) h.said

@@ -1,6 +1,7 @@
 -- What it is for rules over the numbers of texts to be the reactions.
 use Rattle.std.specs.Prelude.{◌≡◌, ℕ, ◌+◌, ◌<◌, ◌≤◌, List, [], ◌∷◌, length, Some, slice_get, option_and_then}
 use Rattle.surf_rules.specs.declared.rule.Rule.{Rule}
+use Rattle.surf_tiles.specs.declared.state.State.{State}
 use Rattle.surf_tiles.specs.declared.reaction.Reaction.{Reaction}
 use Rattle.surf_tiles.specs.Reactions.{giver, reader, outcome}
 use Rattle.surf_tiles.specs.States.{spell}
@@ -20,8 +21,13 @@ SayAll texts [] (r ∷ rs) = ⊥
 SayAll texts (rule ∷ rules) [] = ⊥
 SayAll texts (rule ∷ rules) (r ∷ rs) = Says texts rule r × SayAll texts rules rs
 
--- texts that were there are there with their numbers, and at most n are new
+-- it is the text of a name on a site
+abbrev pub IsSpelled : List ℕ → Type 0
+IsSpelled t = (name : State) × (t ≡ spell name)
+
+-- texts that were there keep their numbers, and at most n are new, each the text of a name
 pub record IsGrown (n : ℕ) (texts grown : List (List ℕ)) : Type 0 where
   pub longer : length texts ≤ length grown
   pub most : length grown ≤ n + length texts
   pub kept : (k : ℕ) → k < length texts → slice_get grown k ≡ slice_get texts k
+  pub new : (k : ℕ) (t : List ℕ) → length texts ≤ k → slice_get grown k ≡ Some t → IsSpelled t

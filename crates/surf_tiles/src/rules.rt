@@ -1,5 +1,5 @@
 //! The rules of compiled circuits.
-ghost use Rattle.std.specs.Prelude.{◌≡◌, ◌<◌, ◌≤◌, ◌^◌, ◌+◌, ◌-◌, ◌++◌, ◌∷◌, [], IfOk, OnOk, Some, length, slice_get};
+ghost use Rattle.std.specs.Prelude.{◌≡◌, ◌<◌, ◌≤◌, ◌^◌, ◌+◌, ◌-◌, ◌++◌, ◌∷◌, [], All, IfOk, OnOk, Some, length, slice_get};
 ghost use Rattle.surf_tiles.specs.Reactions.{reactions};
 ghost use Rattle.surf_tiles.specs.Rules.{IsGrown, SayAll, Says};
 ghost use Rattle.surf_tiles.specs.States.{spell};
@@ -19,6 +19,8 @@ const RATE: u64 = 1_000_000;
 pub fn circuit_rules(alloc: Global, names: &mut Names) -> Result<Vec<Rule>, NoMemory>
     requires { length names.old ≤ 2 ^ 31 }
     ensures rules { IfOk result (λ rules. SayAll names.new rules.items reactions) }
+    ensures count { IfOk result (λ rules. length rules.items ≡ 122) }
+    ensures rates { IfOk result (λ rules. All (λ r. r.rate ≤ 1000000000000) rules.items) }
     ensures grown { IsGrown 366 names.old names.new }
 {
     let list = all_reactions(alloc)?;
