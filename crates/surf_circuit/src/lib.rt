@@ -1,0 +1,10 @@
+//! Circuits on the surface.
+//!
+//! `set_inputs` puts bits at the inputs of a surface that was made of a circuit: exactly the system
+//! that `with_inputs` in `specs/Inputs.antt` gives, or the first fault, and then every site is as it
+//! was. It stands on the manifest and its legend.
+#![tactic(auto)]
+
+mod inputs;
+
+pub use inputs::{SetError, set_inputs};
