@@ -88,7 +88,11 @@ fn interrupted_writes_are_tried_again(rt: HostRuntime) -> Result<(), Fail> {
         let mut sink = StreamSink::new(&mut writer);
         let answer = write_all(&mut sink, b"two words");
         drop_sink(sink);
-        let taken = if good { b"two words".as_slice() } else { b"".as_slice() };
+        let taken = if good {
+            b"two words".as_slice()
+        } else {
+            b"".as_slice()
+        };
         assert!(rt; answer.is_ok() == good && writer.taken.as_slice() == taken);
     }
     Ok(())

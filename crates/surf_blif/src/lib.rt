@@ -16,6 +16,7 @@ mod numbering;
 mod reader;
 mod reading;
 mod rows;
+
 pub use error::BlifError;
 pub use laws::eval_is_of_text;
 pub use reader::read_blif;

@@ -11,4 +11,5 @@ mod lines;
 mod reader;
 mod rule;
 mod sheet;
+
 pub use reader::read_rle;

@@ -9,6 +9,7 @@ mod book;
 mod index;
 mod names;
 mod rule;
+
 pub use book::RuleBook;
 pub use names::Names;
 pub use rule::Rule;
