@@ -169,6 +169,7 @@ impl Reading {
         requires sides { (self.draft.width < 2 ^ 32) × (self.draft.height < 2 ^ 32) }
         ensures ok { IfOk result (λ m. finished (reached_by self) ≡ Ok m.text) }
         ensures names { IfOk result (λ m. length m.names ≤ 37748736) }
+        ensures named { IfOk result (λ m. m.names ≡ (reached_by self).held.names) }
         ensures refused { IfErr result (λ f. finished (reached_by self) ≡ Err f) }
     {
         if let Some(fault) = self.end_fault() {
