@@ -124,13 +124,9 @@ impl Reading {
         ensures draft { IfOk result (λ _. IsDraft self.new.draft) }
         ensures step { MatchResult result (λ _. line_step (reached_by self.old) (line_of line.now) ≡ Ok (reached_by self.new)) (λ f. Refuses (line_step (reached_by self.old) (line_of line.now)) f) }
     {
-        match self.take(alloc, kind_of(line)) {
-            Ok(()) => {
-                self.number += 1;
-                Ok(())
-            }
-            Err(fault) => Err(fault),
-        }
+        self.take(alloc, kind_of(line))?;
+        self.number += 1;
+        Ok(())
     }
 
     // The fault of a text whose lines have none.
