@@ -1,0 +1,6 @@
+pub mod Ways
+pub mod Law
+pub mod Plans
+pub mod Literal
+pub mod Settling
+pub mod Texts

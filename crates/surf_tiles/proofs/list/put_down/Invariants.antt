@@ -1,0 +1,8 @@
+use Rattle.std.proofs.Common.{◌≡◌, ◌++◌, take}
+use Rattle.std.specs.List.{flat_map}
+use Rattle.surf_tiles.specs.Reactions.{for_each_bit}
+use Rattle.surf_tiles.specs.declared.reaction.Reaction.TheVariants.{DownReads}
+use Rattle.surf_tiles.proofs.list.put_down.Given as goal
+
+abbrev pub invariant-loop-across : goal.invariant-loop-across
+invariant-loop-across l = l.list.items ≡ l.initial.list.items ++ flat_map (λ y. for_each_bit (DownReads y)) (take l.across-index l.across-items)
