@@ -1,8 +1,10 @@
 -- Systems whose inputs are set to bits.
-use Rattle.std.specs.Prelude.{ℕ, ◌≡◌, Bool, true, false, ◌&&◌, ◌==◌, nat_lt, bytes_eq, codes, List, [], ◌∷◌, length, Option, Some, None, if◌then◌else◌, slice_get, slice_set}
+use Rattle.std.specs.Prelude.{ℕ, ◌≡◌, Bool, false, ◌&&◌, ◌==◌, nat_lt, bytes_eq, codes, List, [], ◌∷◌, length, map, Option, Some, None, if◌then◌else◌, slice_get}
 use Rattle.surf_lattice.specs.declared.site.Site.{Site}
 use Rattle.surf_lattice.specs.Grids.{Grid, place}
 use Rattle.surf_world.specs.Systems.{System}
+use Rattle.surf_tiles.specs.States.{digit}
+use Rattle.surf_settle.specs.Settling as settling
 use Rattle.surf_manifest.specs.Grammar.{ManifestText}
 use Rattle.surf_manifest_print.specs.declared.legend.Place.{Place}
 use Rattle.surf_manifest_print.specs.Legends.{LegendText}
@@ -11,14 +13,11 @@ use Rattle.surf_circuit.specs.declared.inputs.SetError.TheVariants.{Length, NotI
 
 -- the name of a bit
 abbrev pub bit_name : Bool → List ℕ
-bit_name false = codes "0"
-bit_name true = codes "1"
+bit_name b = digit b ∷ []
 
 -- the configuration with the name of each bit at the site of its place, and every other site as it was
 abbrev pub with_bits : Grid → List (List ℕ) → List Place → List Bool → List (List ℕ)
-with_bits g c [] bits = c
-with_bits g c (p ∷ ps) [] = c
-with_bits g c (p ∷ ps) (b ∷ bits) = with_bits g (slice_set c (place g p.site) (bit_name b)) ps bits
+with_bits g c places bits = settling.with_inputs g c (map (λ p. p.site) places) bits
 
 -- the system with these bits at the legend's inputs, in order
 abbrev pub with_inputs : System (List ℕ) → LegendText → List Bool → System (List ℕ)

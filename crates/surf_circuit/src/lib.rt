@@ -6,5 +6,7 @@
 #![tactic(auto)]
 
 mod inputs;
+mod laws;
 
 pub use inputs::{SetError, set_inputs};
+pub use laws::layouts_compute;

@@ -1,0 +1,153 @@
+-- The surface of a layout of a circuit's netlist computes the circuit.
+use Rattle.std.proofs.Common.{ℕ, zero, suc, ◌≡◌, ◌+◌, ◌*◌, ◌<◌, ◌≤◌, ◌⊎◌, inl, inr, Bool, List, [], ◌∷◌, map, length, Some, None, refl, sym, ◌∙◌, ap, arith, subst, false, slice_get}
+use Rattle.std.proofs.lemmas.List.{length-map}
+use Rattle.std.specs.Prelude.{codes, slice_index_or}
+use Rattle.std.specs.Str.{bytes_eq}
+use Rattle.std.proofs.lemmas.Nat.{mul-add-lt}
+use Rattle.std.proofs.lemmas.Option.{slice_get_past, slice_get_within, slice_get-get_or}
+use Rattle.surf_lattice.specs.declared.site.Site.{Site}
+use Rattle.surf_lattice.specs.Grids.{IsInside, place}
+use Rattle.surf_world.specs.declared.event.Event.{Event}
+use Rattle.surf_world.specs.Systems.{System, Holds, IsRun, Stuck, left_by}
+use Rattle.surf_rules.specs.Names.{text_of}
+use Rattle.surf_logic.specs.Equations.{PartsOf, Numbered}
+use Rattle.surf_logic.specs.Answers.{IsEval}
+use Rattle.surf_tiles.specs.declared.kind.Kind.{Kind}
+use Rattle.surf_tiles.specs.declared.kind.Kind.TheVariants.{Empty, Input}
+use Rattle.surf_tiles.specs.Kinds.{name_of}
+use Rattle.surf_tiles.specs.Netlists.{NetlistOf, value_in, net_meaning}
+use Rattle.surf_netlist.specs.Circuits.{outputs_at}
+use Rattle.surf_settle.specs.Law.{Plan, Lists, LocalLaw, slot, kind_of, grid_of}
+use Rattle.surf_settle.specs.Plans.{IsLayout}
+use Rattle.surf_settle.specs.Settling.{surface_of, blank_names, start_of, events_of, Settles, SettlesAlways}
+use Rattle.surf_settle.specs.Settling as settling
+use Rattle.surf_manifest_print.specs.declared.legend.Place.{Place}
+use Rattle.surf_manifest_print.specs.Legends.{LegendText, AreApart}
+use Rattle.surf_circuit.specs.Inputs.{bit_name, with_inputs}
+use Rattle.surf_circuit.specs.Circuits.{SettlesTo, Computes, CircuitHolds}
+use Rattle.surf_circuit.specs.Surfaces.{places, layout_system, layout_legend, IsSpelled, Decomposes, LayoutsCompute}
+
+-- places by their names and sites
+names_back : (ns : List (List ℕ)) (ss : List Site) → length ss ≡ length ns → map (λ p. p.name) (places ns ss) ≡ ns
+names_back [] ss e = refl
+names_back (n ∷ ns) [] e = absurd (omega (arith, e))
+names_back (n ∷ ns) (s ∷ ss) e = ap (λ v. n ∷ v) (names_back ns ss (omega (arith, e)))
+
+sites_back : (ns : List (List ℕ)) (ss : List Site) → length ss ≡ length ns → map (λ p. p.site) (places ns ss) ≡ ss
+sites_back [] [] e = refl
+sites_back [] (s ∷ ss) e = absurd (omega (arith, e))
+sites_back (n ∷ ns) [] e = absurd (omega (arith, e))
+sites_back (n ∷ ns) (s ∷ ss) e = ap (λ v. s ∷ v) (sites_back ns ss (omega (arith, e)))
+
+site_listed : (ns : List (List ℕ)) (ss : List Site) (i : ℕ) (p : Place) → slice_get (places ns ss) i ≡ Some p → slice_get ss i ≡ Some p.site
+site_listed [] ss i p at = absurd (cc (sym (slice_get_past [] i (omega arith)) ∙ at))
+site_listed (n ∷ ns) [] i p at = absurd (cc (sym (slice_get_past [] i (omega arith)) ∙ at))
+site_listed (n ∷ ns) (s ∷ ss) zero p at = let is : record { name = n; site = s } ≡ p = cc in ap (λ (q : Place). Some q.site) is
+site_listed (n ∷ ns) (s ∷ ss) (suc i) p at = site_listed ns ss i p at
+
+-- a value of the outputs is that of a net
+record IsNetValue (values : List Bool) (nets : List ℕ) (i : ℕ) (v : Bool) : Type 0 where
+  pub net : ℕ
+  pub listed : slice_get nets i ≡ Some net
+  pub is : v ≡ value_in values net
+
+net_value : (values : List Bool) (nets : List ℕ) (i : ℕ) (v : Bool) → slice_get (map (value_in values) nets) i ≡ Some v → IsNetValue values nets i v
+net_value values [] i v at = absurd (cc (sym (slice_get_past [] i (omega arith)) ∙ at))
+net_value values (n ∷ ns) zero v at = record { net = n; listed = refl; is = cc }
+net_value values (n ∷ ns) (suc i) v at = let h = net_value values ns i v at in record { net = h.net; listed = h.listed; is = h.is }
+
+-- the blank name of a site
+name_listed : (kinds : List Kind) (i : ℕ) → i < length kinds → slice_get (map name_of kinds) i ≡ Some (name_of (slice_index_or kinds i Empty))
+name_listed [] i lt = absurd (omega arith)
+name_listed (k ∷ ks) zero lt = refl
+name_listed (k ∷ ks) (suc i) lt = name_listed ks i (omega arith)
+
+module _ (L : Plan) (l : Lists) (law : LocalLaw L l) where
+  place_within : (s : Site) → IsInside (grid_of L) s → place (grid_of L) s < length L.kinds
+  place_within s inside = omega (arith, law.long, mul-add-lt s.y L.width s.x L.height inside.1 inside.0)
+
+  input_unset : (i : ℕ) (s : Site) → slice_get L.inputs i ≡ Some s → Holds (grid_of L) (blank_names L) s (codes "?")
+  input_unset i s at =
+      let h = law.input i s at in
+      (h.0, name_listed L.kinds (place (grid_of L) s) (place_within s h.0) ∙ ap (λ k. Some (name_of k)) h.1)
+
+  inputs_apart : (i j : ℕ) (s t : Site) → slice_get L.inputs i ≡ Some s → slice_get L.inputs j ≡ Some t → s ≡ t → i ≡ j
+  inputs_apart i j s t at_i at_j e = sym (law.input i s at_i).2 ∙ (ap (λ v. l.net (slot v false)) e ∙ (law.input j t at_j).2)
+
+module _ (c : Numbered) (B : PartsOf (List ℕ)) (spelled : IsSpelled B c) (L : Plan) (layout : IsLayout L) (settles : SettlesAlways L)
+  (made : Decomposes L.netlist c) where
+  abbrev legend : LegendText
+  legend = layout_legend B.inputs B.outputs L
+
+  abbrev law : LocalLaw L layout.lawful.0
+  law = layout.lawful.1
+
+  inputs_long : length L.inputs ≡ length B.inputs
+  inputs_long = law.as_many_inputs ∙ (made.inputs ∙ (sym (length-map c.parts.inputs (text_of c.names)) ∙ ap length spelled.inputs))
+
+  outputs_long : length L.outputs ≡ length B.outputs
+  outputs_long = law.as_many_outputs ∙ (made.outputs ∙ (sym (length-map c.parts.outputs (text_of c.names)) ∙ ap length spelled.outputs))
+
+  start_is : (bits : List Bool) → (with_inputs (layout_system L) legend bits).start ≡ start_of L bits
+  start_is bits = ap (λ ss. settling.with_inputs (grid_of L) (blank_names L) ss bits) (sites_back B.inputs L.inputs inputs_long)
+
+  abbrev set_system : List Bool → System (List ℕ)
+  set_system bits = record { surface = surface_of L; start = start_of L bits }
+
+  system_is : (bits : List Bool) → with_inputs (layout_system L) legend bits ≡ set_system bits
+  system_is bits = ap (λ (start : List (List ℕ)). let S : System (List ℕ) = record { surface = surface_of L; start = start } in S) (start_is bits)
+
+  output_inside : (i : ℕ) (p : Place) (v : Bool) (bits : List Bool) → slice_get legend.outputs i ≡ Some p → slice_get (outputs_at L.netlist bits) i ≡ Some v → IsInside (grid_of L) p.site
+  output_inside i p v bits at is =
+      let n = net_value (net_meaning L.netlist bits) L.netlist.outputs i v is in
+      (law.output i p.site n.net (site_listed B.outputs L.outputs i p at) n.listed).0
+
+  module _ (bits : List Bool) (s : Settles L bits) where
+    settled_at : (es : List Event) → IsRun (surface_of L) (start_of L bits) es → Stuck (surface_of L) (left_by (surface_of L) (start_of L bits) es)
+        → (i : ℕ) (p : Place) (v : Bool) → slice_get legend.outputs i ≡ Some p → slice_get (outputs_at L.netlist bits) i ≡ Some v
+        → Holds (grid_of L) (left_by (surface_of L) (start_of L bits) es) p.site (bit_name v)
+    settled_at es run stuck i p v at is =
+        let n = net_value (net_meaning L.netlist bits) L.netlist.outputs i v is in
+        (output_inside i p v bits at is, s.settled es (run, stuck) i p.site n.net (site_listed B.outputs L.outputs i p at) n.listed ∙ ap (λ b. Some (bit_name b)) (sym n.is))
+
+    shown_at : (es : List Event) → IsRun (surface_of L) (start_of L bits) es
+        → (i : ℕ) (p : Place) (v : Bool) → slice_get legend.outputs i ≡ Some p → slice_get (outputs_at L.netlist bits) i ≡ Some v
+        → Holds (grid_of L) (left_by (surface_of L) (start_of L bits) es) p.site (codes "w") ⊎ Holds (grid_of L) (left_by (surface_of L) (start_of L bits) es) p.site (bit_name v)
+    shown_at es run i p v at is =
+        let n = net_value (net_meaning L.netlist bits) L.netlist.outputs i v is in
+        let inside = output_inside i p v bits at is in
+        elim (s.safe es run i p.site n.net (site_listed B.outputs L.outputs i p at) n.listed) [
+          | inl blank ↦ inl (inside, blank)
+          | inr shown ↦ inr (inside, shown ∙ ap (λ b. Some (bit_name b)) (sym n.is))
+        ]
+
+    settles_to : SettlesTo (set_system bits) legend.outputs legend.events (outputs_at L.netlist bits)
+    settles_to = record {
+      at_most = s.at_most;
+      shows = shown_at;
+      exactly = λ es run stuck. s.exactly es (run, stuck);
+      settled = λ es run stuck i p v at is. settled_at es run stuck i p v at is;
+      one_end = λ es es' run stuck run' stuck'. s.one_end es es' (run, stuck) (run', stuck');
+    }
+
+  computes : (bits : List Bool) → length bits ≡ length B.inputs → Computes B (layout_system L) legend bits
+  computes bits long =
+      let enough : length bits ≡ L.netlist.inputs = long ∙ (sym inputs_long ∙ law.as_many_inputs) in
+      record {
+        values = outputs_at L.netlist bits;
+        solved = spelled.evals bits (outputs_at L.netlist bits) (made.values bits enough);
+        settles = subst (λ S. SettlesTo S legend.outputs legend.events (outputs_at L.netlist bits)) (sym (system_is bits)) (settles_to bits (settles bits enough));
+      }
+
+  pub circuit_holds : CircuitHolds B (layout_system L) legend
+  circuit_holds = record {
+    rules = refl;
+    inputs = names_back B.inputs L.inputs inputs_long;
+    outputs = names_back B.outputs L.outputs outputs_long;
+    apart = λ i j p q at_i at_j e. inputs_apart L layout.lawful.0 law i j p.site q.site (site_listed B.inputs L.inputs i p at_i) (site_listed B.inputs L.inputs j q at_j) e;
+    unset = λ i p at. input_unset L layout.lawful.0 law i p.site (site_listed B.inputs L.inputs i p at);
+    computes = computes;
+  }
+
+pub layouts_compute : LayoutsCompute
+layouts_compute c B L spelled made layout settles = circuit_holds c B spelled L layout settles made
