@@ -75,7 +75,7 @@ module _ (L : Plan) (l : Lists) (law : LocalLaw L l) where
   inputs_apart i j s t at_i at_j e = sym (law.input i s at_i).2 ∙ (ap (λ v. l.net (slot v false)) e ∙ (law.input j t at_j).2)
 
 module _ (c : Numbered) (B : PartsOf (List ℕ)) (spelled : IsSpelled B c) (L : Plan) (layout : IsLayout L) (settles : SettlesAlways L)
-  (made : Decomposes L.netlist c) where
+    (made : Decomposes L.netlist c) where
   abbrev legend : LegendText
   legend = layout_legend B.inputs B.outputs L
 
