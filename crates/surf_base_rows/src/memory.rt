@@ -1,7 +1,8 @@
 // Sources and sinks over memory, and decimals.
 use std::test::Fail;
 use surf_base::{
-    MemorySink, MemorySource, ReadAllError, Text, put_decimal, read_all, read_decimal, write_all,
+    MemorySink, MemorySource, Piece, ReadAllError, Text, put_decimal, read_all, read_decimal,
+    write_all, write_pieces,
 };
 
 #[test]
@@ -26,6 +27,21 @@ fn memory_is_written_in_pieces(rt: HostRuntime) -> Result<(), Fail> {
     assert!(rt; write_all(&mut small, b"abc").is_err() && small.bytes() == b"ab");
     let text = Text::new(sink.bytes().to_vec(rt.alloc())?);
     assert!(rt; text.bytes() == sink.bytes());
+    Ok(())
+}
+
+#[test]
+fn pieces_are_written(rt: HostRuntime) -> Result<(), Fail> {
+    let mut sink = MemorySink::new(rt.alloc(), 100, 100, Vec::new(rt.alloc()))?;
+    let pieces = [
+        Piece::Text(b"at "),
+        Piece::Number(u64::MAX),
+        Piece::Byte(b'/'),
+        Piece::Wide(u128::MAX),
+    ];
+    assert!(rt; write_pieces(&mut sink, &pieces).is_ok());
+    let text = b"at 18446744073709551615/340282366920938463463374607431768211455";
+    assert!(rt; sink.bytes() == text);
     Ok(())
 }
 

@@ -1,5 +1,5 @@
 -- How a command ends over an input that was read.
-use Rattle.std.specs.Prelude.{ℕ, ◌≡◌, List, Option}
+use Rattle.std.specs.Prelude.{ℕ, ◌≡◌, List, Result, Ok, Err}
 use Rattle.surf_base.specs.Causes.{Rose}
 use Rattle.surf_pick.specs.Draws.{seeded}
 use Rattle.surf_sim.specs.Simulations.{Simulation}
@@ -21,6 +21,7 @@ use Rattle.surf_auto.specs.declared.error.SourceError.TheVariants as sources
 use Rattle.surf_top.specs.declared.status.Refusal.TheVariants.{Manifest, Trace, Blif, Bits, Source}
 use Rattle.surf_top.specs.Outputs.{IsRefused, FindsBad}
 use Rattle.surf_top.specs.Answers.{WroteWhole, WroteFront}
+use Rattle.surf_top.specs.Writes.{Writes}
 
 -- a simulator of the manifest that no event was taken of, and the texts of its numbers
 pub record IsReady (m : ManifestText) (seed : ℕ) (sim : Simulation) (texts : List (List ℕ)) : Type 0 where
@@ -28,15 +29,20 @@ pub record IsReady (m : ManifestText) (seed : ℕ) (sim : Simulation) (texts : L
   pub seeds : sim.generator ≡ seeded seed
 
 -- which answers a job may give for an input that was read, and what it then wrote
-abbrev pub EndsJob : Job → List ℕ → Option (List ℕ) → Option (List ℕ) → ℕ → ℕ → Status → Type 0
-EndsJob job input old new before now Done = WroteWhole job input old new
-EndsJob job input old new before now (Refused r) = IsRefused job input r
-EndsJob job input old new before now (NotEnabled k) = FindsBad job input k
-EndsJob job input old new before now WriteFault = Rose before now × WroteFront job input old new
-EndsJob job input old new before now NoMemory = Unit {0}
-EndsJob job input old new before now Usage = ⊥
-EndsJob job input old new before now ReadFault = ⊥
-EndsJob job input old new before now TooLong = ⊥
+abbrev pub EndsJob : Job → List ℕ → Writes → Status → Type 0
+EndsJob job input w Done = WroteWhole job input w.old w.new
+EndsJob job input w (Refused r) = IsRefused job input r
+EndsJob job input w (NotEnabled k) = FindsBad job input k
+EndsJob job input w WriteFault = Rose w.before w.now × WroteFront job input w.old w.new
+EndsJob job input w NoMemory = w.now ≡ w.before
+EndsJob job input w Usage = ⊥
+EndsJob job input w ReadFault = ⊥
+EndsJob job input w TooLong = ⊥
+
+-- how a command ends that wrote its text so
+abbrev pub status_of : {T E : Type 0} → Result T E → Status
+status_of (Ok x) = Done
+status_of (Err e) = WriteFault
 
 -- a fault of a manifest refuses it; want of memory is an answer of its own
 abbrev pub answer_to : ManifestError → Status

@@ -1,3 +1,4 @@
+pub mod Writes
 pub mod Jobs
 pub mod Runs
 pub mod Values

@@ -1,5 +1,5 @@
 -- The line that goes to the notes, and the exit status.
-use Rattle.std.specs.Prelude.{ℕ, ◌≤◌, List, [], ◌∷◌, ◌++◌, Option, codes}
+use Rattle.std.specs.Prelude.{ℕ, ◌≤◌, List, [], ◌∷◌, ◌++◌, codes}
 use Rattle.std.specs.Fmt.{decimal}
 use Rattle.std.specs.Io.KnownBytes.{Appends}
 use Rattle.surf_base.specs.Causes.{Rose}
@@ -22,6 +22,7 @@ use Rattle.surf_top.specs.declared.status.Refusal.{Refusal}
 use Rattle.surf_top.specs.declared.status.Refusal.TheVariants.{Manifest, Trace, Blif, Bits, Source}
 use Rattle.surf_top.specs.declared.status.Status.{Status}
 use Rattle.surf_top.specs.declared.status.Status.TheVariants.{Done, Refused, Usage, NotEnabled, ReadFault, WriteFault, NoMemory, TooLong}
+use Rattle.surf_top.specs.Writes.{Writes}
 
 -- the exit status
 abbrev pub code_of : Status → ℕ
@@ -127,7 +128,7 @@ note_of NoMemory = codes "surf: no memory\n"
 note_of TooLong = codes "surf: input longer than 268435456 bytes\n"
 
 -- a front of the line was written, and all of it where no fault rose
-pub record Notes (old new : Option (List ℕ)) (before now : ℕ) (line : List ℕ) : Type 0 where
-  pub front : AppendsFront old new line
-  pub whole : (Rose before now → ⊥) → Appends old new line
-  pub later : before ≤ now
+pub record Notes (w : Writes) (line : List ℕ) : Type 0 where
+  pub front : AppendsFront w.old w.new line
+  pub whole : (Rose w.before w.now → ⊥) → Appends w.old w.new line
+  pub later : w.before ≤ w.now

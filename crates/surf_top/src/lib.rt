@@ -6,6 +6,7 @@
 #![tactic(auto)]
 
 mod canonical;
+mod cells;
 mod evaluating;
 mod events;
 mod job;

@@ -1,7 +1,8 @@
 ghost use Rattle.std.specs.Prelude.{◌≡◌};
-ghost use Rattle.surf_top.specs.Commands.{answer_to, answer_to_bits, answer_to_blif, answer_to_source, answer_to_trace};
+ghost use Rattle.surf_top.specs.Commands.{answer_to, answer_to_bits, answer_to_blif, answer_to_source, answer_to_trace, status_of};
 
 use surf_auto::SourceError;
+use surf_base::WriteFault;
 use surf_blif::BlifError;
 use surf_logic::EvalError;
 use surf_manifest::ManifestError;
@@ -54,6 +55,16 @@ impl Status {
             Status::NoMemory => 6,
             Status::TooLong => 7,
         }
+    }
+}
+
+// How a command ends that wrote its text so.
+pub fn ended(written: Result<(), WriteFault>) -> Status
+    ensures { result ≡ status_of written }
+{
+    match written {
+        Ok(()) => Status::Done,
+        Err(WriteFault) => Status::WriteFault,
     }
 }
 
