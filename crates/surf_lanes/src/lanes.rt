@@ -1,5 +1,5 @@
 //! Spans and lanes.
-ghost use Rattle.std.specs.Prelude.{◌≡◌};
+ghost use Rattle.std.specs.Prelude.{◌≡◌, ◌<◌, length};
 
 use std::marker::Model;
 
@@ -24,4 +24,23 @@ impl Model for Lanes {
     ghost Value = { LanesOf };
 
     ghost view = { λ l. record { lane = l.lane.items; count = l.count; row = l.row } };
+}
+
+impl Lanes {
+    ghost use Rattle.surf_lanes.specs.Lanes.{lane_at};
+
+    /// The lane of a span.
+    pub fn lane(&self, span: usize) -> u32
+        requires { span < length self.now.lane }
+        ensures { result ≡ lane_at self.now span }
+    {
+        self.lane[span]
+    }
+
+    /// How many lanes there are.
+    pub fn count(&self) -> u32
+        ensures { result ≡ self.now.count }
+    {
+        self.count
+    }
 }
