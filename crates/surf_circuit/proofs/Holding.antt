@@ -1,28 +1,26 @@
 -- The surface of a layout of a circuit's netlist computes the circuit.
-use Rattle.std.proofs.Common.{ℕ, zero, suc, ◌≡◌, ◌+◌, ◌*◌, ◌<◌, ◌≤◌, ◌⊎◌, inl, inr, Bool, List, [], ◌∷◌, map, length, Some, None, refl, sym, ◌∙◌, ap, arith, subst, false, slice_get}
+use Rattle.std.proofs.Common.{ℕ, zero, suc, ◌≡◌, ◌<◌, ◌⊎◌, inl, inr, Bool, List, [], ◌∷◌, map, length, Some, refl, sym, ◌∙◌, ap, arith, subst, false, slice_get}
 use Rattle.std.proofs.lemmas.List.{length-map}
 use Rattle.std.specs.Prelude.{codes, slice_index_or}
-use Rattle.std.specs.Str.{bytes_eq}
 use Rattle.std.proofs.lemmas.Nat.{mul-add-lt}
-use Rattle.std.proofs.lemmas.Option.{slice_get_past, slice_get_within, slice_get-get_or}
+use Rattle.std.proofs.lemmas.Option.{slice_get_past}
 use Rattle.surf_lattice.specs.declared.site.Site.{Site}
 use Rattle.surf_lattice.specs.Grids.{IsInside, place}
 use Rattle.surf_world.specs.declared.event.Event.{Event}
 use Rattle.surf_world.specs.Systems.{System, Holds, IsRun, Stuck, left_by}
 use Rattle.surf_rules.specs.Names.{text_of}
 use Rattle.surf_logic.specs.Equations.{PartsOf, Numbered}
-use Rattle.surf_logic.specs.Answers.{IsEval}
 use Rattle.surf_tiles.specs.declared.kind.Kind.{Kind}
-use Rattle.surf_tiles.specs.declared.kind.Kind.TheVariants.{Empty, Input}
+use Rattle.surf_tiles.specs.declared.kind.Kind.TheVariants.{Empty}
 use Rattle.surf_tiles.specs.Kinds.{name_of}
-use Rattle.surf_tiles.specs.Netlists.{NetlistOf, value_in, net_meaning}
+use Rattle.surf_tiles.specs.Netlists.{value_in, net_meaning}
 use Rattle.surf_netlist.specs.Circuits.{outputs_at}
-use Rattle.surf_settle.specs.Law.{Plan, Lists, LocalLaw, slot, kind_of, grid_of}
+use Rattle.surf_settle.specs.Law.{Plan, Lists, LocalLaw, slot, grid_of}
 use Rattle.surf_settle.specs.Plans.{IsLayout}
 use Rattle.surf_settle.specs.Settling.{surface_of, blank_names, start_of, events_of, Settles, SettlesAlways}
 use Rattle.surf_settle.specs.Settling as settling
 use Rattle.surf_manifest_print.specs.declared.legend.Place.{Place}
-use Rattle.surf_manifest_print.specs.Legends.{LegendText, AreApart}
+use Rattle.surf_manifest_print.specs.Legends.{LegendText}
 use Rattle.surf_circuit.specs.Inputs.{bit_name, with_inputs}
 use Rattle.surf_circuit.specs.Circuits.{SettlesTo, Computes, CircuitHolds}
 use Rattle.surf_circuit.specs.Surfaces.{places, layout_system, layout_legend, IsSpelled, Decomposes, LayoutsCompute}
@@ -75,7 +73,7 @@ module _ (L : Plan) (l : Lists) (law : LocalLaw L l) where
   inputs_apart i j s t at_i at_j e = sym (law.input i s at_i).2 ∙ (ap (λ v. l.net (slot v false)) e ∙ (law.input j t at_j).2)
 
 module _ (c : Numbered) (B : PartsOf (List ℕ)) (spelled : IsSpelled B c) (L : Plan) (layout : IsLayout L) (settles : SettlesAlways L)
-  (made : Decomposes L.netlist c) where
+    (made : Decomposes L.netlist c) where
   abbrev legend : LegendText
   legend = layout_legend B.inputs B.outputs L
 

@@ -7,6 +7,9 @@
 
 mod inputs;
 mod laws;
+mod legend;
+mod numbering;
+mod surface;
 
 pub use inputs::{SetError, set_inputs};
 pub use laws::layouts_compute;
