@@ -3,3 +3,4 @@ pub mod Holding
 pub mod PlaceLemmas
 pub mod KindLemmas
 pub mod SurfaceLemmas
+pub mod Setting

@@ -12,4 +12,4 @@ mod numbering;
 mod surface;
 
 pub use inputs::{SetError, set_inputs};
-pub use laws::layouts_compute;
+pub use laws::{circuits_are_set, layouts_compute, sets_keep_form};
