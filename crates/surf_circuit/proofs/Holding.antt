@@ -23,7 +23,8 @@ use Rattle.surf_manifest_print.specs.declared.legend.Place.{Place}
 use Rattle.surf_manifest_print.specs.Legends.{LegendText}
 use Rattle.surf_circuit.specs.Inputs.{bit_name, with_inputs}
 use Rattle.surf_circuit.specs.Circuits.{SettlesTo, Computes, CircuitHolds}
-use Rattle.surf_circuit.specs.Surfaces.{places, layout_system, layout_legend, IsSpelled, Decomposes, LayoutsCompute}
+use Rattle.surf_manifest.specs.Grammar.{ManifestText}
+use Rattle.surf_circuit.specs.Surfaces.{places, plain_manifest, layout_system, layout_legend, IsSpelled, Decomposes, LayoutsCompute}
 
 -- places by their names and sites
 names_back : (ns : List (List ℕ)) (ss : List Site) → length ss ≡ length ns → map (λ p. p.name) (places ns ss) ≡ ns
@@ -149,3 +150,11 @@ module _ (c : Numbered) (B : PartsOf (List ℕ)) (spelled : IsSpelled B c) (L : 
 
 pub layouts_compute : LayoutsCompute
 layouts_compute c B L spelled made layout settles = circuit_holds c B spelled L layout settles made
+
+-- the same of a manifest and a legend that are the layout's
+pub spelled_holds : (c : Numbered) (B : PartsOf (List ℕ)) (L : Plan) → IsSpelled B c → Decomposes L.netlist c → IsLayout L → SettlesAlways L
+    → (m : ManifestText) (l : LegendText) → m ≡ plain_manifest (layout_system L) → l ≡ layout_legend (map (text_of c.names) c.parts.inputs) (map (text_of c.names) c.parts.outputs) L
+    → CircuitHolds B m.system l
+spelled_holds c B L spelled made layout settles m l is named =
+    let names : l ≡ layout_legend B.inputs B.outputs L = named ∙ (ap (λ v. layout_legend v (map (text_of c.names) c.parts.outputs) L) spelled.inputs ∙ ap (λ v. layout_legend B.inputs v L) spelled.outputs) in
+    subst (λ (x : ManifestText). CircuitHolds B x.system l) (sym is) (subst (CircuitHolds B (layout_system L)) (sym names) (layouts_compute c B L spelled made layout settles))

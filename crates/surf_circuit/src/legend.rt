@@ -1,7 +1,8 @@
 // The legend of a layout.
-ghost use Rattle.std.specs.Prelude.{◌<◌, ◌≡◌, All, IfOk, length, map};
-ghost use Rattle.surf_circuit.specs.Surfaces.{layout_legend, places};
+ghost use Rattle.std.specs.Prelude.{◌<◌, ◌≡◌, All, IfOk, OnOk, length, map};
+ghost use Rattle.surf_circuit.specs.Surfaces.{Decomposes, layout_legend, places};
 ghost use Rattle.surf_rules.specs.Names.{text_of};
+ghost use Rattle.surf_settle.specs.Settling.{SettlesAlways};
 
 use std::alloc::Global;
 use surf_base::{NoMemory, Text};
@@ -30,7 +31,7 @@ fn input_places(
     layout: &Layout,
 ) -> Result<Vec<Place>, NoMemory>
     requires named { All (λ n. n < length names.now) inputs.now }
-    requires same { length inputs.now ≡ length layout.now.inputs }
+    requires same { length inputs.now ≡ layout.now.netlist.inputs }
     ensures { IfOk result (λ v. v.items ≡ places (map (text_of names.now) inputs.now) layout.now.inputs) }
 {
     let mut found = Vec::with_capacity(alloc, inputs.len()).map_err(|_| NoMemory)?;
@@ -49,7 +50,7 @@ fn output_places(
     layout: &Layout,
 ) -> Result<Vec<Place>, NoMemory>
     requires named { All (λ n. n < length names.now) outputs.now }
-    requires same { length outputs.now ≡ length layout.now.outputs }
+    requires same { length outputs.now ≡ length layout.now.netlist.outputs }
     ensures { IfOk result (λ v. v.items ≡ places (map (text_of names.now) outputs.now) layout.now.outputs) }
 {
     let mut found = Vec::with_capacity(alloc, outputs.len()).map_err(|_| NoMemory)?;
@@ -66,14 +67,15 @@ pub(crate) fn legend_of(
     circuit: &Circuit,
     layout: &Layout,
 ) -> Result<Legend, NoMemory>
-    requires inputs { length circuit.now.parts.inputs ≡ length layout.now.inputs }
-    requires outputs { length circuit.now.parts.outputs ≡ length layout.now.outputs }
-    ensures { IfOk result (λ l. l ≡ layout_legend (map (text_of circuit.now.names) circuit.now.parts.inputs) (map (text_of circuit.now.names) circuit.now.parts.outputs) layout.now) }
+    requires { Decomposes layout.now.netlist circuit.now }
+    ensures is { IfOk result (λ l. l ≡ layout_legend (map (text_of circuit.now.names) circuit.now.parts.inputs) (map (text_of circuit.now.names) circuit.now.parts.outputs) layout.now) }
+    ensures settles { OnOk result (SettlesAlways layout.now) }
 {
     let names = circuit.names();
+    let events = layout.events();
     Ok(Legend {
         inputs: input_places(alloc, names, circuit.inputs(), layout)?,
         outputs: output_places(alloc, names, circuit.outputs(), layout)?,
-        events: layout.events(),
+        events,
     })
 }

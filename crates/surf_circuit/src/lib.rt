@@ -5,6 +5,7 @@
 //! was. It stands on the manifest and its legend.
 #![tactic(auto)]
 
+mod compile;
 mod inputs;
 mod laws;
 mod legend;

@@ -1,7 +1,8 @@
 // The surface of a layout as a manifest.
-ghost use Rattle.std.specs.Prelude.{◌≡◌, IfOk, length, map, slice_index_or};
+ghost use Rattle.std.specs.Prelude.{◌≡◌, IfOk, OnOk, length, map, slice_index_or};
 ghost use Rattle.surf_circuit.specs.Numbering.{NumbersAll, kind_index};
 ghost use Rattle.surf_circuit.specs.Surfaces.{layout_system, plain_manifest};
+ghost use Rattle.surf_settle.specs.Plans.{IsLayout};
 
 use crate::numbering::{kind_index, number_kinds};
 use std::alloc::Global;
@@ -29,7 +30,8 @@ fn start_of(alloc: Global, kinds: &[Kind], numbers: &[u32]) -> Result<Vec<u32>, 
 /// The manifest of the surface of a layout: the rules of circuits, the blank name of each site's
 /// kind, no options and no colormap.
 pub(crate) fn manifest_of(alloc: Global, layout: &Layout) -> Result<Manifest, NoMemory>
-    ensures { IfOk result (λ m. m.text ≡ plain_manifest (layout_system layout.now)) }
+    ensures text { IfOk result (λ m. m.text ≡ plain_manifest (layout_system layout.now)) }
+    ensures layout { OnOk result (IsLayout layout.now) }
 {
     let mut names = Names::new(alloc);
     let rules = circuit_rules(alloc, &mut names)?;

@@ -20,8 +20,8 @@ assemble-requires-clause-start c =
     let texts = c.number_kinds.new.names in
     subst (NamesBelow (length texts)) (sym c.in_ok-start.ensures) (start_below texts c.deref.result.now c.kinds.result.now (subst (NumbersAll c.number_kinds.new.names) (sym c.deref.ensures.value) c.in_ok-numbers.ensures.numbers))
 
-pub returns : goal.returns
-returns c =
+pub returns-clause-text : goal.returns-clause-text
+returns-clause-text c =
     let L = c.args.layout.now in
     let texts = c.number_kinds.new.names in
     let numbers = c.deref.result.now in
