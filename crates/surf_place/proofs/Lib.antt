@@ -1,0 +1,5 @@
+pub mod Rows
+pub mod Nets
+pub mod Lanes
+pub mod Laid
+pub mod Tiles
