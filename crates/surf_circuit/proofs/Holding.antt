@@ -1,31 +1,30 @@
 -- The surface of a layout of a circuit's netlist computes the circuit.
-use Rattle.std.proofs.Common.{ℕ, zero, suc, ◌≡◌, ◌+◌, ◌*◌, ◌<◌, ◌≤◌, ◌⊎◌, inl, inr, Bool, List, [], ◌∷◌, map, length, Some, None, refl, sym, ◌∙◌, ap, arith, subst, false, slice_get}
+use Rattle.std.proofs.Common.{ℕ, zero, suc, ◌≡◌, ◌<◌, ◌⊎◌, inl, inr, Bool, List, [], ◌∷◌, map, length, Some, refl, sym, ◌∙◌, ap, arith, subst, false, slice_get}
 use Rattle.std.proofs.lemmas.List.{length-map}
 use Rattle.std.specs.Prelude.{codes, slice_index_or}
-use Rattle.std.specs.Str.{bytes_eq}
 use Rattle.std.proofs.lemmas.Nat.{mul-add-lt}
-use Rattle.std.proofs.lemmas.Option.{slice_get_past, slice_get_within, slice_get-get_or}
+use Rattle.std.proofs.lemmas.Option.{slice_get_past}
 use Rattle.surf_lattice.specs.declared.site.Site.{Site}
 use Rattle.surf_lattice.specs.Grids.{IsInside, place}
 use Rattle.surf_world.specs.declared.event.Event.{Event}
 use Rattle.surf_world.specs.Systems.{System, Holds, IsRun, Stuck, left_by}
 use Rattle.surf_rules.specs.Names.{text_of}
 use Rattle.surf_logic.specs.Equations.{PartsOf, Numbered}
-use Rattle.surf_logic.specs.Answers.{IsEval}
 use Rattle.surf_tiles.specs.declared.kind.Kind.{Kind}
-use Rattle.surf_tiles.specs.declared.kind.Kind.TheVariants.{Empty, Input}
+use Rattle.surf_tiles.specs.declared.kind.Kind.TheVariants.{Empty}
 use Rattle.surf_tiles.specs.Kinds.{name_of}
-use Rattle.surf_tiles.specs.Netlists.{NetlistOf, value_in, net_meaning}
+use Rattle.surf_tiles.specs.Netlists.{value_in, net_meaning}
 use Rattle.surf_netlist.specs.Circuits.{outputs_at}
-use Rattle.surf_settle.specs.Law.{Plan, Lists, LocalLaw, slot, kind_of, grid_of}
+use Rattle.surf_settle.specs.Law.{Plan, Lists, LocalLaw, slot, grid_of}
 use Rattle.surf_settle.specs.Plans.{IsLayout}
 use Rattle.surf_settle.specs.Settling.{surface_of, blank_names, start_of, events_of, Settles, SettlesAlways}
 use Rattle.surf_settle.specs.Settling as settling
 use Rattle.surf_manifest_print.specs.declared.legend.Place.{Place}
-use Rattle.surf_manifest_print.specs.Legends.{LegendText, AreApart}
+use Rattle.surf_manifest_print.specs.Legends.{LegendText}
 use Rattle.surf_circuit.specs.Inputs.{bit_name, with_inputs}
 use Rattle.surf_circuit.specs.Circuits.{SettlesTo, Computes, CircuitHolds}
-use Rattle.surf_circuit.specs.Surfaces.{places, layout_system, layout_legend, IsSpelled, Decomposes, LayoutsCompute}
+use Rattle.surf_manifest.specs.Grammar.{ManifestText}
+use Rattle.surf_circuit.specs.Surfaces.{places, plain_manifest, layout_system, layout_legend, IsSpelled, Decomposes, LayoutsCompute}
 
 -- places by their names and sites
 names_back : (ns : List (List ℕ)) (ss : List Site) → length ss ≡ length ns → map (λ p. p.name) (places ns ss) ≡ ns
@@ -151,3 +150,11 @@ module _ (c : Numbered) (B : PartsOf (List ℕ)) (spelled : IsSpelled B c) (L : 
 
 pub layouts_compute : LayoutsCompute
 layouts_compute c B L spelled made layout settles = circuit_holds c B spelled L layout settles made
+
+-- the same of a manifest and a legend that are the layout's
+pub spelled_holds : (c : Numbered) (B : PartsOf (List ℕ)) (L : Plan) → IsSpelled B c → Decomposes L.netlist c → IsLayout L → SettlesAlways L
+    → (m : ManifestText) (l : LegendText) → m ≡ plain_manifest (layout_system L) → l ≡ layout_legend (map (text_of c.names) c.parts.inputs) (map (text_of c.names) c.parts.outputs) L
+    → CircuitHolds B m.system l
+spelled_holds c B L spelled made layout settles m l is named =
+    let names : l ≡ layout_legend B.inputs B.outputs L = named ∙ (ap (λ v. layout_legend v (map (text_of c.names) c.parts.outputs) L) spelled.inputs ∙ ap (λ v. layout_legend B.inputs v L) spelled.outputs) in
+    subst (λ (x : ManifestText). CircuitHolds B x.system l) (sym is) (subst (CircuitHolds B (layout_system L)) (sym names) (layouts_compute c B L spelled made layout settles))

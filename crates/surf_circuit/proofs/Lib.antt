@@ -1,2 +1,6 @@
 pub mod InputLemmas
 pub mod Holding
+pub mod PlaceLemmas
+pub mod KindLemmas
+pub mod SurfaceLemmas
+pub mod Setting

@@ -1,3 +1,4 @@
 pub mod Inputs
 pub mod Circuits
 pub mod Surfaces
+pub mod Numbering

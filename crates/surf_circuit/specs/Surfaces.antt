@@ -14,6 +14,8 @@ use Rattle.surf_settle.specs.Settling.{surface_of, blank_names, events_of, Settl
 use Rattle.surf_manifest.specs.Grammar.{ManifestText}
 use Rattle.surf_manifest_print.specs.declared.legend.Place.{Place}
 use Rattle.surf_manifest_print.specs.Legends.{LegendText}
+use Rattle.surf_manifest.specs.WellFormed.{IsWellFormed}
+use Rattle.surf_circuit.specs.Inputs.{set_fault, with_inputs, with_system}
 use Rattle.surf_circuit.specs.Circuits.{CircuitHolds}
 
 -- the i-th name with the i-th site
@@ -53,3 +55,11 @@ pub record Decomposes (N : NetlistOf) (c : Numbered) : Type 0 where
 abbrev pub LayoutsCompute : Type 0
 LayoutsCompute = (c : Numbered) (B : PartsOf (List ℕ)) (L : Plan) → IsSpelled B c → Decomposes L.netlist c → IsLayout L → SettlesAlways L →
     CircuitHolds B (layout_system L) (layout_legend B.inputs B.outputs L)
+
+-- the inputs of a surface of a circuit can be set to as many bits as there are inputs
+abbrev pub CircuitsAreSet : Type 0
+CircuitsAreSet = (B : PartsOf (List ℕ)) (S : System (List ℕ)) (l : LegendText) (bits : List Bool) → CircuitHolds B S l → length bits ≡ length B.inputs → set_fault S l bits ≡ None
+
+-- a manifest whose inputs are set is well formed
+abbrev pub SetsKeepForm : Type 0
+SetsKeepForm = (m : ManifestText) (l : LegendText) (bits : List Bool) → IsWellFormed m → IsWellFormed (with_system m (with_inputs m.system l bits))

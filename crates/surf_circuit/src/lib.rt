@@ -5,8 +5,12 @@
 //! was. It stands on the manifest and its legend.
 #![tactic(auto)]
 
+mod compile;
 mod inputs;
 mod laws;
+mod legend;
+mod numbering;
+mod surface;
 
 pub use inputs::{SetError, set_inputs};
-pub use laws::layouts_compute;
+pub use laws::{circuits_are_set, layouts_compute, sets_keep_form};

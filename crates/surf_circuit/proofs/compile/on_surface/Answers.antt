@@ -1,0 +1,13 @@
+use Rattle.std.proofs.Common.{◌≡◌, ◌∙◌, ap, sym, subst, map}
+use Rattle.surf_world.specs.Systems.{System}
+use Rattle.surf_manifest.specs.Grammar.{ManifestText}
+use Rattle.surf_manifest_print.specs.Legends.{LegendText}
+use Rattle.surf_rules.specs.Names.{text_of}
+use Rattle.surf_circuit.specs.Circuits.{CircuitHolds}
+use Rattle.surf_circuit.proofs.Holding.{spelled_holds}
+use Rattle.surf_circuit.proofs.compile.on_surface.Goals as goal
+
+pub returns-clause-holds : goal.returns-clause-holds
+returns-clause-holds c B spelled =
+    spelled_holds c.args.circuit.now B c.args.layout.now spelled c.requires c.in_ok-manifest.ensures.layout c.in_ok-legend.ensures.settles
+    c.in_ok-manifest.manifest.text c.in_ok-legend.legend c.in_ok-manifest.ensures.text c.in_ok-legend.ensures.is
