@@ -76,7 +76,8 @@ fn write_values<K: Sink>(
 /// that the word spells.
 pub fn evaluate<K: Sink>(alloc: Global, input: Vec<u8>, word: &[u8], out: &mut K) -> Status
     requires { length input.items ≤ 268435456 }
-    ensures ends { EndsJob (Eval (bits_of word.now)) input.items (writes K.written K.faults out.old out.new) result }
+    ensures ends { EndsJob (Eval (bits_of word.now)) input.items
+        (writes K.written K.faults out.old out.new) result }
     ensures quiet { IsQuiet result → out.new ≡ out.old }
 {
     let circuit = match read_blif(alloc, &input) {

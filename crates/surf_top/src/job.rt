@@ -21,7 +21,8 @@ pub enum Job<'a> {
 }
 
 fn job_for<'a>(command: &Command<'a>) -> Option<Job<'a>>
-    ensures { MatchOption result (job_for (Some (spoken command.now)) ≡ None) (λ j. job_for (Some (spoken command.now)) ≡ Some (meant j)) }
+    ensures { MatchOption result (job_for (Some (spoken command.now)) ≡ None)
+        (λ j. job_for (Some (spoken command.now)) ≡ Some (meant j)) }
 {
     match command {
         Command::Run { seed, count } => Some(Job::Run {
@@ -44,7 +45,8 @@ fn job_for<'a>(command: &Command<'a>) -> Option<Job<'a>>
 
 /// The job that the words ask for, if they spell a command that is carried out.
 pub fn read_job(words: &[String]) -> Option<Job<'_>>
-    ensures { MatchOption result (job_of (map string_bytes words.now) ≡ None) (λ j. job_of (map string_bytes words.now) ≡ Some (meant j)) }
+    ensures { MatchOption result (job_of (map string_bytes words.now) ≡ None)
+        (λ j. job_of (map string_bytes words.now) ≡ Some (meant j)) }
 {
     match read_words(words) {
         Ok(command) => job_for(&command),

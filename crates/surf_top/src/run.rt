@@ -72,7 +72,8 @@ fn simulator(alloc: Global, manifest: Manifest, seed: u64) -> Option<(Sim<Grid, 
 /// simulator is built.
 pub fn run<K: Sink>(alloc: Global, input: Vec<u8>, seed: u64, count: u64, out: &mut K) -> Status
     requires { length input.items ≤ 268435456 }
-    ensures ends { EndsJob (Run seed count) input.items (writes K.written K.faults out.old out.new) result }
+    ensures ends { EndsJob (Run seed count) input.items
+        (writes K.written K.faults out.old out.new) result }
     ensures quiet { IsQuiet result → out.new ≡ out.old }
 {
     let manifest = match read_manifest(alloc, &input) {

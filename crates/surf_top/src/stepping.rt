@@ -61,7 +61,8 @@ fn show<L: Local + Drop, K: Sink>(
 fn show_table<K: Sink>(alloc: Global, input: Vec<u8>, times: u32, out: &mut K) -> Status
     requires table { is_table input.items ≡ true }
     requires small { length input.items ≤ 268435456 }
-    ensures ends { EndsJob (Step times) input.items (writes K.written K.faults out.old out.new) result }
+    ensures ends { EndsJob (Step times) input.items
+        (writes K.written K.faults out.old out.new) result }
     ensures quiet { IsQuiet result → out.new ≡ out.old }
 {
     match read_table(alloc, &input, 0) {
@@ -76,7 +77,8 @@ fn show_table<K: Sink>(alloc: Global, input: Vec<u8>, times: u32, out: &mut K) -
 fn show_pattern<K: Sink>(alloc: Global, input: Vec<u8>, times: u32, out: &mut K) -> Status
     requires pattern { is_table input.items ≡ false }
     requires small { length input.items ≤ 268435456 }
-    ensures ends { EndsJob (Step times) input.items (writes K.written K.faults out.old out.new) result }
+    ensures ends { EndsJob (Step times) input.items
+        (writes K.written K.faults out.old out.new) result }
     ensures quiet { IsQuiet result → out.new ≡ out.old }
 {
     match read_rle(alloc, &input, 0) {
@@ -91,7 +93,8 @@ fn show_pattern<K: Sink>(alloc: Global, input: Vec<u8>, times: u32, out: &mut K)
 /// Writes the states of the cells of the automaton that a text spells, after so many steps.
 pub fn show_generation<K: Sink>(alloc: Global, input: Vec<u8>, times: u32, out: &mut K) -> Status
     requires small { length input.items ≤ 268435456 }
-    ensures ends { EndsJob (Step times) input.items (writes K.written K.faults out.old out.new) result }
+    ensures ends { EndsJob (Step times) input.items
+        (writes K.written K.faults out.old out.new) result }
     ensures quiet { IsQuiet result → out.new ≡ out.old }
 {
     if is_table(&input) {

@@ -21,7 +21,8 @@ const LIMIT: u64 = 268_435_456;
 
 fn carry_out<K: Sink>(alloc: Global, job: &Job<'_>, input: Vec<u8>, out: &mut K) -> Status
     requires { length input.items ≤ 268435456 }
-    ensures ends { EndsJob (meant job.now) input.items (writes K.written K.faults out.old out.new) result }
+    ensures ends { EndsJob (meant job.now) input.items
+        (writes K.written K.faults out.old out.new) result }
     ensures quiet { IsQuiet result → out.new ≡ out.old }
 {
     match job {
@@ -41,7 +42,8 @@ fn answer<S: Source, K: Sink>(
     out: &mut K,
 ) -> Status
     ensures causes { HasCauses (job_of (map string_bytes words.now))
-        (ends S.left S.faults source.old source.new (writes K.written K.faults out.old out.new)) result }
+        (ends S.left S.faults source.old source.new (writes K.written K.faults out.old out.new))
+        result }
     ensures quiet { IsQuiet result → out.new ≡ out.old }
     ensures unread { result ≡ Status.Usage → source.new ≡ source.old }
 {
@@ -66,11 +68,14 @@ pub fn surf<S: Source, K: Sink, N: Sink>(
     notes: &mut N,
 ) -> Status
     ensures causes { HasCauses (job_of (map string_bytes words.now))
-        (ends S.left S.faults source.old source.new (writes K.written K.faults out.old out.new)) result }
+        (ends S.left S.faults source.old source.new (writes K.written K.faults out.old out.new))
+        result }
     ensures complete { IsComplete (job_of (map string_bytes words.now))
-        (ends S.left S.faults source.old source.new (writes K.written K.faults out.old out.new)) result }
+        (ends S.left S.faults source.old source.new (writes K.written K.faults out.old out.new))
+        result }
     ensures runs { PrintsRun (job_of (map string_bytes words.now))
-        (ends S.left S.faults source.old source.new (writes K.written K.faults out.old out.new)) result }
+        (ends S.left S.faults source.old source.new (writes K.written K.faults out.old out.new))
+        result }
     ensures quiet { IsQuiet result → out.new ≡ out.old }
     ensures unread { result ≡ Status.Usage → source.new ≡ source.old }
     ensures noted { Notes (writes N.written N.faults notes.old notes.new) (note_of result) }
