@@ -25,8 +25,9 @@ fn patterns_have_a_margin(rt: HostRuntime) -> Result<(), Fail> {
     let small = pattern(rt.alloc(), b"x = 2, y = 1, rule = B/SV\nbo!", 1).map_err(|_| "refused")?;
     let cells = [0, 0, 0, 0, 0, 0, 1, 0, 0, 0, 0, 0];
     assert_eq!(rt; small.cells.as_slice(), cells.as_slice());
-    let square =
-        pattern(rt.alloc(), b"x = 1, y = 2, rule = B213/S04v\n!", 3).map_err(|_| "refused")?;
+    let square = pattern(rt.alloc(), b"x = 1, y = 2, rule = B213/S04v\n!", 3).map_err(
+        |_| "refused",
+    )?;
     assert_eq!(rt; square.kind, GridKind::Square);
     assert_eq!(rt; (square.width, square.height, square.edge), (7, 8, 0));
     assert_eq!(rt; square.local.degree(), 4);
@@ -60,8 +61,14 @@ fn margins_count(rt: HostRuntime) {
         Err(SourceError::GridTooLarge(18_446_761_244_992_797_025))
     );
     for (text, count) in [
-        (b"automaton 1\ndegree 4\nstates 1\nedge 0\nweights 0\nnext 0 0\nsize 1 1\n".as_slice(), 4_004_001),
-        (b"automaton 1\ndegree 4\nstates 1\nedge 0\nweights 0\nnext 0 0\nsize 1 1\nrow 7\n", 4_004_001),
+        (
+            b"automaton 1\ndegree 4\nstates 1\nedge 0\nweights 0\nnext 0 0\nsize 1 1\n".as_slice(),
+            4_004_001,
+        ),
+        (
+            b"automaton 1\ndegree 4\nstates 1\nedge 0\nweights 0\nnext 0 0\nsize 1 1\nrow 7\n",
+            4_004_001,
+        ),
         (
             b"automaton 1\ndegree 4\nstates 1\nedge 0\nweights 0\nnext 0 0\nsize 4294967295 4294967295",
             18_446_761_244_992_797_025,
