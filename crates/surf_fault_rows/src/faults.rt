@@ -1,4 +1,4 @@
-// Faults of the source, of the output and of the notes, and words that are no command.
+// Faults of the source, of the output and of the notes.
 use crate::calling::{Outside, call, calm};
 use std::test::Fail;
 
@@ -39,29 +39,6 @@ fn faults_of_writing_are_answered(rt: HostRuntime) -> Result<(), Fail> {
         );
         assert!(rt; whole.out.starts_with(&answer.out), "write {k}");
         assert_eq!(rt; answer.notes.is_empty(), k % 2 == 1);
-    }
-    Ok(())
-}
-
-#[test]
-fn words_that_are_no_command_are_refused(rt: HostRuntime) -> Result<(), Fail> {
-    for words in [
-        "",
-        "run 1",
-        "run 1 -1",
-        "run x 1",
-        "run 1 1 1",
-        "step 1000001",
-        "demo adder 33",
-        "--help",
-    ] {
-        let outside = Outside {
-            bad_read: 1,
-            ..calm()
-        };
-        let answer = call(rt.alloc(), words, b"", outside)?;
-        assert!(rt; answer.status == 2 && answer.out.is_empty(), "{words}");
-        assert_eq!(rt; answer.notes.as_slice(), b"surf: usage\n".as_slice());
     }
     Ok(())
 }
