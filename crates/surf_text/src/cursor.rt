@@ -80,6 +80,7 @@ impl<'a> Lines<'a> {
     pub fn next_kept<S: Skip>(&mut self) -> Option<&'a [u8]>
         ensures line { IfSome result (λ t. first_kept S.skipped self.old.number (lines_of self.old.left) ≡ Some (record { line = t.now; number = self.new.number; behind = lines_of self.new.left })) }
         ensures shorter { IfSome result (λ t. length self.new.left < length self.old.left) }
+        ensures within { self.new.number + length self.new.left ≤ self.old.number + length self.old.left }
         ensures none { IfNone result (first_kept S.skipped self.old.number (lines_of self.old.left) ≡ None) }
         ensures end { IfNone result (self.new.left ≡ []) }
         ensures counted { IfNone result (self.new.number ≡ self.old.number + length (lines_of self.old.left)) }
