@@ -48,9 +48,25 @@ fn inputs_are_set(rt: HostRuntime) -> Result<(), Fail> {
 #[test]
 fn bits_are_counted(rt: HostRuntime) -> Result<(), Fail> {
     let (_, few) = set(rt.alloc(), SURFACE, &[true])?;
-    assert!(rt; matches!(&few, Some(SetError::Length { found: 1, wanted: 2 })));
+    assert!(rt;
+        matches!(
+            &few,
+            Some(SetError::Length {
+                found: 1,
+                wanted: 2
+            })
+        )
+    );
     let (_, many) = set(rt.alloc(), SURFACE, &[true, false, true])?;
-    assert!(rt; matches!(&many, Some(SetError::Length { found: 3, wanted: 2 })));
+    assert!(rt;
+        matches!(
+            &many,
+            Some(SetError::Length {
+                found: 3,
+                wanted: 2
+            })
+        )
+    );
     Ok(())
 }
 
@@ -58,7 +74,11 @@ const PLACES: [(&[u8], u32, u32); 4] = [
     (b"# surf input a 0 0\n# surf events 0\n", 0, 0),
     (b"# surf input a 3 0\n# surf events 0\n", 3, 0),
     (b"# surf input a 0 2\n# surf events 0\n", 0, 2),
-    (b"# surf input a 0 1\n# surf input b 2 1\n# surf events 0\n", 2, 1),
+    (
+        b"# surf input a 0 1\n# surf input b 2 1\n# surf events 0\n",
+        2,
+        1,
+    ),
 ];
 
 #[test]
@@ -67,7 +87,9 @@ fn other_sites_are_refused(rt: HostRuntime) -> Result<(), Fail> {
         let bits = [true, true];
         let count = read_legend(rt.alloc(), legend)?.inputs.len();
         let (_, refusal) = set(rt.alloc(), legend, &bits[..count.min(2)])?;
-        assert!(rt; matches!(&refusal, Some(SetError::NotInput(site)) if site.x == x && site.y == y));
+        assert!(rt;
+            matches!(&refusal, Some(SetError::NotInput(site)) if site.x == x && site.y == y)
+        );
     }
     Ok(())
 }

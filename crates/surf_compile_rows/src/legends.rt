@@ -21,12 +21,24 @@ fn told(alloc: Global, text: &[u8]) -> Result<String, AllocError> {
 const READ: [(&[u8], &str); 9] = [
     (b"", "none"),
     (b"# surf events 7\n", "0 0 7"),
-    (b"# surf input a 1 0\n# surf output b 0 1\n# surf events 21\n", "1 1 21"),
+    (
+        b"# surf input a 1 0\n# surf output b 0 1\n# surf events 21\n",
+        "1 1 21",
+    ),
     (b"A\n #\tsurf  input\ta 01 0\r\n\n# surf events 1", "1 0 1"),
-    (b"!START_INIT_STATE\n# surf events 3\nA\n!END_INIT_STATE\n", "0 0 3"),
+    (
+        b"!START_INIT_STATE\n# surf events 3\nA\n!END_INIT_STATE\n",
+        "0 0 3",
+    ),
     (b"#surf events 7\n# surface\n# SURF\n#\n% # surf\n", "none"),
-    (b"# surf input a 1 0\n# surf output b 1 0\n# surf output b 1 0\n# surf events 2", "1 2 2"),
-    (b"# surf input a 4294967295 0\n# surf events 18446744073709551615\n", "1 0 18446744073709551615"),
+    (
+        b"# surf input a 1 0\n# surf output b 1 0\n# surf output b 1 0\n# surf events 2",
+        "1 2 2",
+    ),
+    (
+        b"# surf input a 4294967295 0\n# surf events 18446744073709551615\n",
+        "1 0 18446744073709551615",
+    ),
     (b"# surf input a 1 0\n# surf input a 0 1\n", "none"),
 ];
 
@@ -42,7 +54,10 @@ const FAULTS: [(&[u8], &str); 12] = [
     (b"# surf events 1 2\n", "bad 1"),
     (b"# surf events 18446744073709551616\n", "bad 1"),
     (b"# surf events 1\n# surf events 1\n", "bad 2"),
-    (b"# surf input a 1 0\n# surf events 1\n# surf input b 1 0\n# surf\n", "bad 3"),
+    (
+        b"# surf input a 1 0\n# surf events 1\n# surf input b 1 0\n# surf\n",
+        "bad 3",
+    ),
 ];
 
 #[test]
