@@ -3,3 +3,5 @@ pub mod Nets
 pub mod Lanes
 pub mod Laid
 pub mod Tiles
+pub mod Filled
+pub mod Taking

@@ -8,6 +8,7 @@
 #![tactic(auto)]
 
 mod drawing;
+mod filling;
 mod placed;
 mod routed;
 mod sketched;

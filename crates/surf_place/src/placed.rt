@@ -7,9 +7,12 @@ ghost use Rattle.surf_place.specs.Drawing.{rows_of, source_row, last_row};
 ghost use Rattle.surf_place.specs.Placed.{IsDrawable, IsPlaced, placement_of, net_spans, spans_of, tiles_of};
 
 use crate::drawing::Drawing;
+use crate::filling::{Filling, fill};
 use crate::routed::Routed;
+use std::alloc::Global;
 use std::marker::Model;
-use surf_lanes::Lanes;
+use surf_base::NoMemory;
+use surf_lanes::{Lanes, Span, pack};
 use surf_tiles::{Netlist, Tile};
 
 /// The state of a drawing whose nets have rows and columns.
@@ -30,6 +33,58 @@ impl Model for Placed {
     ghost view = { λ p. record { netlist = p.netlist; lanes = p.lanes } };
 
     ghost invariant = { λ p. IsLaid p.netlist p.rows p.source.items p.last.items p.lanes };
+}
+
+// The spans from the source rows to the last rows.
+fn spans(alloc: Global, source: &[u32], last: &[u32]) -> Result<Vec<Span>, NoMemory>
+    requires { length source.now ≡ length last.now }
+    ensures { IfOk result (λ v. v.items ≡ spans_of source.now last.now) }
+{
+    let mut spans = Vec::with_capacity(alloc, source.len()).map_err(|_| NoMemory)?;
+    let mut i = 0;
+    while i < source.len() {
+        let span = Span {
+            from: source[i],
+            to: last[i],
+        };
+        spans.push(span).map_err(|_| NoMemory)?;
+        i += 1;
+    }
+    Ok(spans)
+}
+
+// The lanes of the nets of a netlist whose rows are known.
+fn lanes_of(alloc: Global, netlist: &Netlist, rows: &Filling) -> Result<Lanes, NoMemory>
+    requires drawable { IsDrawable netlist.now }
+    requires sources { rows.now.source.items ≡ map (source_row netlist.now) (range_with_len 0 (nets_of netlist.now)) }
+    requires lasts { rows.now.last.items ≡ map (last_row netlist.now) (range_with_len 0 (nets_of netlist.now)) }
+    ensures { IfOk result (IsPacked (net_spans netlist.now)) }
+{
+    let spans = spans(alloc, &rows.source, &rows.last)?;
+    pack(alloc, &spans)
+}
+
+// A netlist with the rows and the lanes of its nets. On `NoMemory` the netlist comes back.
+pub(crate) fn place_nets(alloc: Global, netlist: Netlist) -> Result<Placed, (Netlist, NoMemory)>
+    requires { IsDrawable netlist }
+    ensures netlist { IfOk result (λ p. p.netlist ≡ netlist) }
+    ensures placed { IfOk result IsPlaced }
+    ensures back { IfErr result (λ e. e.0 ≡ netlist) }
+{
+    let Ok(rows) = fill(alloc, &netlist) else {
+        return Err((netlist, NoMemory));
+    };
+    let Ok(lanes) = lanes_of(alloc, &netlist, &rows) else {
+        return Err((netlist, NoMemory));
+    };
+    let Filling { source, last, row } = rows;
+    Ok(Placed {
+        netlist,
+        rows: row,
+        source,
+        last,
+        lanes,
+    })
 }
 
 impl Placed {
