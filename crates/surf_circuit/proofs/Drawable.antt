@@ -1,5 +1,5 @@
 -- The netlist of a circuit can be drawn.
-use Rattle.std.proofs.Common.{ℕ, zero, suc, ◌≡◌, ◌+◌, ◌*◌, ◌<◌, ◌≤◌, List, [], ◌∷◌, map, length, Option, Some, None, nat_eq, refl, sym, ◌∙◌, ap, arith}
+use Rattle.std.proofs.Common.{Bool, ℕ, zero, suc, ◌≡◌, ◌+◌, ◌*◌, ◌<◌, ◌≤◌, List, [], ◌∷◌, map, length, Option, Some, None, nat_eq, refl, sym, ◌∙◌, ap, arith, subst}
 use Rattle.std.specs.Option.{option_map}
 use Rattle.std.proofs.lemmas.List.{length-map}
 use Rattle.surf_tiles.specs.declared.netlist.Gate.{Gate}
@@ -8,7 +8,11 @@ use Rattle.surf_tiles.specs.Netlists.{NetlistOf}
 use Rattle.surf_logic.specs.Equations.{Numbered}
 use Rattle.surf_logic.specs.Order.{Fault, DeclaredTwice, DrivenTwice, Undriven, or_else, declared_twice, driven_twice, undriven, no_outputs, IsCircuit}
 use Rattle.surf_place.specs.Drawing.{Row, Ends, input_rows, gate_rows, rows_of}
-use Rattle.surf_netlist.specs.Circuits.{gates_of, nets_from, input_nets}
+use Rattle.surf_netlist.specs.Circuits.{gates_of, nets_from, input_nets, outputs_at}
+use Rattle.surf_logic.specs.Answers.{IsEval}
+use Rattle.surf_settle.specs.Law.{Plan}
+use Rattle.surf_circuit.specs.Surfaces.{Decomposes}
+use Rattle.surf_circuit.specs.Compiled.{IsDrawn}
 
 inputs_rows : (count net : ℕ) (below : List Row) → length (input_rows count net below) ≡ count + length below
 inputs_rows zero net below = omega arith
@@ -44,3 +48,14 @@ has_output c circuit =
     let last = no_outputs c.parts.outputs in
     let none = nothing_else missing last (nothing_else driven (or_else missing last) (nothing_else declared (or_else driven (or_else missing last)) circuit.no_fault)) in
     omega (arith, some_output c.parts.outputs none, length-map c.parts.outputs (nets_from (length c.parts.inputs) (input_nets 0 c.parts.inputs) c.parts.equations))
+
+-- the gates have the inputs and the outputs of the circuit
+decomposed : (c : Numbered) (N : NetlistOf) → N ≡ gates_of c.parts → ((bits : List Bool) → length bits ≡ N.inputs → IsEval c bits (outputs_at N bits)) → Decomposes N c
+decomposed c N is values = record {
+  inputs = ap (λ (n : NetlistOf). n.inputs) is;
+  outputs = ap (λ (n : NetlistOf). length n.outputs) is ∙ length-map c.parts.outputs (nets_from (length c.parts.inputs) (input_nets 0 c.parts.inputs) c.parts.equations);
+  values = values;
+}
+
+pub decomposed_layout : (c : Numbered) (N : NetlistOf) (L : Plan) → N ≡ gates_of c.parts → ((bits : List Bool) → length bits ≡ N.inputs → IsEval c bits (outputs_at N bits)) → IsDrawn N L → Decomposes L.netlist c
+decomposed_layout c N L is values drawn = subst (λ (n : NetlistOf). Decomposes n c) (sym (ap (λ (l : Plan). l.netlist) drawn.drawn)) (decomposed c N is values)

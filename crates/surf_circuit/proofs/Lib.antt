@@ -5,3 +5,4 @@ pub mod KindLemmas
 pub mod SurfaceLemmas
 pub mod Setting
 pub mod Drawable
+pub mod OneSurface
