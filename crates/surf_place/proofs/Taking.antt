@@ -73,6 +73,23 @@ inputs_long : (count net : ℕ) (below : List Row) → length below ≤ length (
 inputs_long zero net below = omega arith
 inputs_long (suc count) net below = let d = inputs_long count (net + 1) below in omega (arith, d)
 
+gates_few : (net : ℕ) (gates : List Gate) (below : List Row) → length (gate_rows net gates below) ≤ 3 * length gates + length below
+gates_few net [] below = omega arith
+gates_few net (Constant v ∷ gates) below = let d = gates_few (net + 1) gates below in omega (arith, d)
+gates_few net (One z o input ∷ gates) below = let d = gates_few (net + 1) gates below in omega (arith, d)
+gates_few net (Two t00 t01 t10 t11 first second ∷ gates) below = let d = gates_few (net + 1) gates below in omega (arith, d)
+
+inputs_few : (count net : ℕ) (below : List Row) → length (input_rows count net below) ≡ count + length below
+inputs_few zero net below = omega arith
+inputs_few (suc count) net below = let d = inputs_few count (net + 1) below in omega (arith, d)
+
+-- at most three rows for a gate, and one for each input and output
+pub rows_few : (N : NetlistOf) → length (rows_of N) ≤ N.inputs + 3 * length N.gates + length N.outputs
+rows_few N =
+    let a = inputs_few N.inputs 0 (gate_rows N.inputs N.gates (map Ends N.outputs)) in
+    let b = gates_few N.inputs N.gates (map Ends N.outputs) in
+    let l = length-map N.outputs Ends in omega (arith, a, b, l)
+
 -- each output has a row
 pub outputs_few : (N : NetlistOf) → length N.outputs ≤ length (rows_of N)
 outputs_few N =

@@ -1,0 +1,14 @@
+pub mod Tiling
+pub mod Spots
+pub mod FromTiles
+pub mod Edges
+pub mod Cells
+pub mod Drawn
+pub mod EndRows
+pub mod SealedLaw
+pub mod Tables
+pub mod Lines
+pub mod Sheets
+pub mod Drawing
+pub mod Sites
+pub mod Bounds

@@ -1,0 +1,4 @@
+pub mod TileLaw
+pub mod Sealed
+pub mod Routing
+pub mod Sealing

@@ -1,0 +1,69 @@
+//! The kinds of the sites of a drawing.
+ghost use Rattle.std.specs.Prelude.{◌≡◌, ◌+◌, ◌*◌, ◌<◌, ◌++◌, ◌∷◌, [], IfOk, OnOk, length};
+ghost use Rattle.surf_place.specs.Drawing.{rows_of};
+ghost use Rattle.surf_place.specs.Placed.{IsPlaced, placement_of};
+ghost use Rattle.surf_route.specs.Sealed.{sealed_of};
+ghost use Rattle.surf_route.specs.Sealing.{AreKinds, line_start};
+
+use std::alloc::Global;
+use surf_base::NoMemory;
+use surf_place::{Drawing, Routed};
+use surf_tiles::{Kind, sites};
+
+/// The kinds of all sites, in row-major order. They stand once in memory.
+pub fn all_kinds(alloc: Global, drawing: &Drawing<Routed>) -> Result<Vec<Kind>, NoMemory>
+    requires { IsPlaced drawing.now }
+    ensures { IfOk result (λ kinds. kinds.items ≡ (sealed_of drawing.now).kinds) }
+{
+    let count = 9 * drawing.columns() as usize * drawing.rows() as usize;
+    let mut kinds = with_room(alloc, count)?;
+    for row in 0..drawing.rows() {
+        put_tiles(&mut kinds, drawing, row)?;
+    }
+    Ok(kinds)
+}
+
+fn with_room(alloc: Global, count: usize) -> Result<Vec<Kind>, NoMemory>
+    ensures { IfOk result (λ kinds. kinds.items ≡ []) }
+{
+    Vec::with_capacity(alloc, count).map_err(|_| NoMemory)
+}
+
+// The sites of a row of tiles.
+fn put_tiles(kinds: &mut Vec<Kind>, drawing: &Drawing<Routed>, row: u32) -> Result<(), NoMemory>
+    requires so_far { AreKinds drawing.now (line_start drawing.now row 0) kinds.old.items }
+    requires within { row < length (rows_of drawing.now.netlist) }
+    ensures { let end = line_start drawing.now (row + 1) 0 in
+        OnOk result (AreKinds drawing.now end kinds.new.items) }
+{
+    for y in 0..3 {
+        put_line(kinds, drawing, row, y)?;
+    }
+    Ok(())
+}
+
+// One of the three rows of sites of a row of tiles.
+fn put_line(
+    kinds: &mut Vec<Kind>,
+    drawing: &Drawing<Routed>,
+    row: u32,
+    y: u32,
+) -> Result<(), NoMemory>
+    requires so_far { AreKinds drawing.now (line_start drawing.now row y) kinds.old.items }
+    requires within { row < length (rows_of drawing.now.netlist) }
+    requires third { y < 3 }
+    ensures { let end = line_start drawing.now row (y + 1) in
+        OnOk result (AreKinds drawing.now end kinds.new.items) }
+{
+    for column in 0..drawing.columns() {
+        let tile = sites(drawing.tile(column, row));
+        put_sites(kinds, &tile[y as usize])?;
+    }
+    Ok(())
+}
+
+fn put_sites(kinds: &mut Vec<Kind>, sites: &[Kind]) -> Result<(), NoMemory>
+    ensures { OnOk result (kinds.new.items ≡ kinds.old.items ++ sites.now) }
+{
+    kinds.extend_from_slice(sites).map_err(|_| NoMemory)
+}
