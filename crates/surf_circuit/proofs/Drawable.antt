@@ -1,12 +1,12 @@
 -- The netlist of a circuit can be drawn.
-use Rattle.std.proofs.Common.{Bool, ℕ, zero, suc, ◌≡◌, ◌+◌, ◌*◌, ◌<◌, ◌≤◌, List, [], ◌∷◌, map, length, Option, Some, None, nat_eq, refl, sym, ◌∙◌, ap, arith, subst}
+use Rattle.std.proofs.Common.{Bool, ℕ, zero, suc, ◌≡◌, ◌+◌, ◌*◌, ◌<◌, ◌≤◌, List, [], ◌∷◌, map, length, Option, Some, None, nat_eq, sym, ◌∙◌, ap, arith, subst}
 use Rattle.std.specs.Option.{option_map}
 use Rattle.std.proofs.lemmas.List.{length-map}
 use Rattle.surf_tiles.specs.declared.netlist.Gate.{Gate}
 use Rattle.surf_tiles.specs.declared.netlist.Gate.TheVariants.{Constant, One, Two}
 use Rattle.surf_tiles.specs.Netlists.{NetlistOf}
 use Rattle.surf_logic.specs.Equations.{Numbered}
-use Rattle.surf_logic.specs.Order.{Fault, DeclaredTwice, DrivenTwice, Undriven, or_else, declared_twice, driven_twice, undriven, no_outputs, IsCircuit}
+use Rattle.surf_logic.specs.Order.{DeclaredTwice, DrivenTwice, Undriven, or_else, declared_twice, driven_twice, undriven, no_outputs, IsCircuit}
 use Rattle.surf_place.specs.Drawing.{Row, Ends, input_rows, gate_rows, rows_of}
 use Rattle.surf_netlist.specs.Circuits.{gates_of, nets_from, input_nets, outputs_at}
 use Rattle.surf_logic.specs.Answers.{IsEval}

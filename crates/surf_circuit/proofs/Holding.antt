@@ -6,7 +6,7 @@ use Rattle.std.specs.List.{list_all}
 use Rattle.std.proofs.lemmas.Bool.{and_parts, lt-ltb}
 use Rattle.surf_text.specs.Bytes.{is_word}
 use Rattle.std.proofs.lemmas.Nat.{mul-add-lt}
-use Rattle.std.proofs.lemmas.Option.{slice_get_past}
+use Rattle.std.proofs.lemmas.Option.{slice_get_past, slice_get-get_or, slice_get_within}
 use Rattle.surf_lattice.specs.declared.site.Site.{Site}
 use Rattle.surf_lattice.specs.Grids.{IsInside, place}
 use Rattle.surf_world.specs.declared.event.Event.{Event}
@@ -23,7 +23,7 @@ use Rattle.surf_settle.specs.Plans.{IsLayout}
 use Rattle.surf_settle.specs.Settling.{surface_of, blank_names, start_of, events_of, Settles, SettlesAlways}
 use Rattle.surf_settle.specs.Settling as settling
 use Rattle.surf_manifest_print.specs.declared.legend.Place.{Place}
-use Rattle.surf_manifest_print.specs.Legends.{LegendText}
+use Rattle.surf_manifest_print.specs.Legends.{LegendText, is_place, IsLegend}
 use Rattle.surf_circuit.specs.Inputs.{bit_name, with_inputs}
 use Rattle.surf_circuit.specs.Circuits.{SettlesTo, Computes, CircuitHolds}
 use Rattle.surf_manifest.specs.Grammar.{ManifestText}
@@ -169,12 +169,13 @@ some_net nets i lt = slice_get-get_or nets i 0 lt
 -- a layout's legend can be printed
 pub legend_fits : (B : PartsOf (List ℕ)) (L : Plan) → IsLayout L → AreWords B → L.width < 2 ^ 32 → L.height < 2 ^ 32 → events_of L < 2 ^ 64 → IsLegend (Some (layout_legend B.inputs B.outputs L))
 legend_fits B L layout words wide high few =
-    let law : LocalLaw L layout.lawful.0 = layout.lawful.1 in
-    (places_fit B.inputs L.inputs words.inputs (λ i s at. inside_fits L s wide high (law.input i s at).0),
-     places_fit B.outputs L.outputs words.outputs (λ i s at.
-         let within : i < length L.netlist.outputs = let lt = slice_get_within L.outputs i s at in let many = law.as_many_outputs in omega (arith, lt, many) in
-         inside_fits L s wide high (law.output i s (slice_index_or L.netlist.outputs i 0) at (some_net L.netlist.outputs i within)).0),
-     few)
+    let law : LocalLaw L layout.lawful.0 = layout.lawful.1 in (
+      places_fit B.inputs L.inputs words.inputs (λ i s at. inside_fits L s wide high (law.input i s at).0),
+      places_fit B.outputs L.outputs words.outputs (λ i s at.
+          let within : i < length L.netlist.outputs = let lt = slice_get_within L.outputs i s at in let many = law.as_many_outputs in omega (arith, lt, many) in
+          inside_fits L s wide high (law.output i s (slice_index_or L.netlist.outputs i 0) at (some_net L.netlist.outputs i within)).0),
+      few,
+    )
 
 pub layouts_compute : LayoutsCompute
 layouts_compute c B L spelled made layout settles = circuit_holds c B spelled L layout settles made

@@ -1,10 +1,9 @@
 -- A circuit has one surface.
-use Rattle.std.proofs.Common.{ℕ, ◌≡◌, ◌<◌, List, map, length, get_or, refl, sym, ◌∙◌, ap, arith, subst, Result, Ok, Err}
+use Rattle.std.proofs.Common.{ℕ, ◌≡◌, List, map, length, sym, ◌∙◌, ap, arith, subst, Result, Ok, Err}
 use Rattle.std.specs.Prelude.{IfOk}
 use Rattle.surf_base.specs.declared.outside.NoMemory.{NoMemory}
 use Rattle.std.proofs.lemmas.List.{ext_get_or}
 use Rattle.surf_rules.specs.Names.{text_of}
-use Rattle.surf_logic.specs.Equations.{Numbered}
 use Rattle.surf_tiles.specs.Netlists.{NetlistOf}
 use Rattle.surf_lanes.specs.declared.lanes.Span.{Span}
 use Rattle.surf_lanes.specs.Lanes.{LanesOf, IsPacked}
@@ -28,9 +27,10 @@ drawn_one N L L' d d' = d.drawn ∙ (ap (λ l. sealed N (packed l)) (lanes_one (
 
 pub surface_is_one : SurfaceIsOne
 surface_is_one c m m' l l' s s' =
-    let one = drawn_one _ s.layout s'.layout s.drawn s'.drawn in
-    (s.manifest ∙ (ap (λ L. plain_manifest (layout_system L)) one ∙ sym s'.manifest),
-     s.legend ∙ (ap (layout_legend (map (text_of c.names) c.parts.inputs) (map (text_of c.names) c.parts.outputs)) one ∙ sym s'.legend))
+    let one = drawn_one _ s.layout s'.layout s.drawn s'.drawn in (
+      s.manifest ∙ (ap (λ L. plain_manifest (layout_system L)) one ∙ sym s'.manifest),
+      s.legend ∙ (ap (layout_legend (map (text_of c.names) c.parts.inputs) (map (text_of c.names) c.parts.outputs)) one ∙ sym s'.legend),
+    )
 
 -- what is sealed of placed nets is drawn
 pub drawn_placed : (N : NetlistOf) (d : PlacedOf) → d.netlist ≡ N → IsPlaced d → (L : Plan) → L ≡ sealed d.netlist (placement_of d) → IsDrawn N L

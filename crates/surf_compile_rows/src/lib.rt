@@ -7,3 +7,5 @@
 mod inputs;
 #[cfg(test)]
 mod legends;
+#[cfg(test)]
+mod surfaces;

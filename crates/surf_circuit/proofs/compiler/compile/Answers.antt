@@ -1,8 +1,5 @@
-use Rattle.std.proofs.Common.{◌≡◌, ◌<◌, ◌∙◌, ap, subst, arith, length, sym, map}
-use Rattle.std.proofs.lemmas.List.{length-map}
+use Rattle.std.proofs.Common.{◌<◌, subst, arith, length, sym}
 use Rattle.surf_tiles.specs.Netlists.{NetlistOf}
-use Rattle.surf_netlist.specs.Circuits.{gates_of}
-use Rattle.surf_circuit.specs.Surfaces.{Decomposes}
 use Rattle.surf_circuit.specs.Compiled.{IsDrawn}
 use Rattle.surf_circuit.proofs.Drawable.{decomposed_layout, few_rows, has_output}
 use Rattle.surf_circuit.proofs.compiler.compile.Goals as goal

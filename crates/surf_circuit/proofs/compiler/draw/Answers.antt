@@ -1,4 +1,4 @@
-use Rattle.std.proofs.Common.{◌≡◌, ◌∙◌}
+use Rattle.std.proofs.Common.{◌∙◌}
 use Rattle.surf_circuit.proofs.OneSurface.{drawn_result}
 use Rattle.surf_circuit.proofs.compiler.draw.Goals as goal
 

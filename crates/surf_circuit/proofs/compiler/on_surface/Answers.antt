@@ -1,9 +1,3 @@
-use Rattle.std.proofs.Common.{◌≡◌, ◌∙◌, ap, sym, subst, map}
-use Rattle.surf_world.specs.Systems.{System}
-use Rattle.surf_manifest.specs.Grammar.{ManifestText}
-use Rattle.surf_manifest_print.specs.Legends.{LegendText}
-use Rattle.surf_rules.specs.Names.{text_of}
-use Rattle.surf_circuit.specs.Circuits.{CircuitHolds}
 use Rattle.surf_circuit.proofs.Holding.{spelled_fits, spelled_holds}
 use Rattle.surf_circuit.proofs.compiler.on_surface.Goals as goal
 
