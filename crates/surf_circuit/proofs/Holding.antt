@@ -1,9 +1,12 @@
 -- The surface of a layout of a circuit's netlist computes the circuit.
-use Rattle.std.proofs.Common.{ℕ, zero, suc, ◌≡◌, ◌<◌, ◌⊎◌, inl, inr, Bool, List, [], ◌∷◌, map, length, Some, refl, sym, ◌∙◌, ap, arith, subst, false, slice_get}
+use Rattle.std.proofs.Common.{ℕ, zero, suc, ◌≡◌, ◌<◌, ◌⊎◌, inl, inr, Bool, List, [], ◌∷◌, map, length, Some, refl, sym, ◌∙◌, ap, arith, subst, false, slice_get, ◌^◌, true}
 use Rattle.std.proofs.lemmas.List.{length-map}
 use Rattle.std.specs.Prelude.{codes, slice_index_or}
+use Rattle.std.specs.List.{list_all}
+use Rattle.std.proofs.lemmas.Bool.{and_parts, lt-ltb}
+use Rattle.surf_text.specs.Bytes.{is_word}
 use Rattle.std.proofs.lemmas.Nat.{mul-add-lt}
-use Rattle.std.proofs.lemmas.Option.{slice_get_past}
+use Rattle.std.proofs.lemmas.Option.{slice_get_past, slice_get-get_or, slice_get_within}
 use Rattle.surf_lattice.specs.declared.site.Site.{Site}
 use Rattle.surf_lattice.specs.Grids.{IsInside, place}
 use Rattle.surf_world.specs.declared.event.Event.{Event}
@@ -20,11 +23,11 @@ use Rattle.surf_settle.specs.Plans.{IsLayout}
 use Rattle.surf_settle.specs.Settling.{surface_of, blank_names, start_of, events_of, Settles, SettlesAlways}
 use Rattle.surf_settle.specs.Settling as settling
 use Rattle.surf_manifest_print.specs.declared.legend.Place.{Place}
-use Rattle.surf_manifest_print.specs.Legends.{LegendText}
+use Rattle.surf_manifest_print.specs.Legends.{LegendText, is_place, IsLegend}
 use Rattle.surf_circuit.specs.Inputs.{bit_name, with_inputs}
 use Rattle.surf_circuit.specs.Circuits.{SettlesTo, Computes, CircuitHolds}
 use Rattle.surf_manifest.specs.Grammar.{ManifestText}
-use Rattle.surf_circuit.specs.Surfaces.{places, plain_manifest, layout_system, layout_legend, IsSpelled, Decomposes, LayoutsCompute}
+use Rattle.surf_circuit.specs.Surfaces.{places, plain_manifest, layout_system, layout_legend, IsSpelled, AreWords, Decomposes, LayoutsCompute}
 
 -- places by their names and sites
 names_back : (ns : List (List ℕ)) (ss : List Site) → length ss ≡ length ns → map (λ p. p.name) (places ns ss) ≡ ns
@@ -148,6 +151,32 @@ module _ (c : Numbered) (B : PartsOf (List ℕ)) (spelled : IsSpelled B c) (L : 
     computes = computes;
   }
 
+-- places whose names are words, at sites whose coordinates fit
+places_fit : (ns : List (List ℕ)) (ss : List Site) → list_all is_word ns ≡ true → ((i : ℕ) (s : Site) → slice_get ss i ≡ Some s → (s.x < 2 ^ 32) × (s.y < 2 ^ 32)) → list_all is_place (places ns ss) ≡ true
+places_fit [] ss w h = refl
+places_fit (n ∷ ns) [] w h = refl
+places_fit (n ∷ ns) (s ∷ ss) w h =
+    let q = and_parts (is_word n) (list_all is_word ns) w in
+    let fits = h zero s refl in
+    rw (q.0, lt-ltb s.x (2 ^ 32) fits.0, lt-ltb s.y (2 ^ 32) fits.1, places_fit ns ss q.1 (λ i t at. h (suc i) t at)) refl
+
+inside_fits : (L : Plan) (s : Site) → L.width < 2 ^ 32 → L.height < 2 ^ 32 → IsInside (grid_of L) s → (s.x < 2 ^ 32) × (s.y < 2 ^ 32)
+inside_fits L s wide high inside = let x = inside.0 in let y = inside.1 in (omega (arith, x, wide), omega (arith, y, high))
+
+some_net : (nets : List ℕ) (i : ℕ) → i < length nets → slice_get nets i ≡ Some (slice_index_or nets i 0)
+some_net nets i lt = slice_get-get_or nets i 0 lt
+
+-- a layout's legend can be printed
+pub legend_fits : (B : PartsOf (List ℕ)) (L : Plan) → IsLayout L → AreWords B → L.width < 2 ^ 32 → L.height < 2 ^ 32 → events_of L < 2 ^ 64 → IsLegend (Some (layout_legend B.inputs B.outputs L))
+legend_fits B L layout words wide high few =
+    let law : LocalLaw L layout.lawful.0 = layout.lawful.1 in (
+      places_fit B.inputs L.inputs words.inputs (λ i s at. inside_fits L s wide high (law.input i s at).0),
+      places_fit B.outputs L.outputs words.outputs (λ i s at.
+          let within : i < length L.netlist.outputs = let lt = slice_get_within L.outputs i s at in let many = law.as_many_outputs in omega (arith, lt, many) in
+          inside_fits L s wide high (law.output i s (slice_index_or L.netlist.outputs i 0) at (some_net L.netlist.outputs i within)).0),
+      few,
+    )
+
 pub layouts_compute : LayoutsCompute
 layouts_compute c B L spelled made layout settles = circuit_holds c B spelled L layout settles made
 
@@ -158,3 +187,9 @@ pub spelled_holds : (c : Numbered) (B : PartsOf (List ℕ)) (L : Plan) → IsSpe
 spelled_holds c B L spelled made layout settles m l is named =
     let names : l ≡ layout_legend B.inputs B.outputs L = named ∙ (ap (λ v. layout_legend v (map (text_of c.names) c.parts.outputs) L) spelled.inputs ∙ ap (λ v. layout_legend B.inputs v L) spelled.outputs) in
     subst (λ (x : ManifestText). CircuitHolds B x.system l) (sym is) (subst (CircuitHolds B (layout_system L)) (sym names) (layouts_compute c B L spelled made layout settles))
+
+pub spelled_fits : (c : Numbered) (B : PartsOf (List ℕ)) (L : Plan) → IsSpelled B c → IsLayout L → AreWords B → L.width < 2 ^ 32 → L.height < 2 ^ 32 → events_of L < 2 ^ 64
+    → (l : LegendText) → l ≡ layout_legend (map (text_of c.names) c.parts.inputs) (map (text_of c.names) c.parts.outputs) L → IsLegend (Some l)
+spelled_fits c B L spelled layout words wide high few l named =
+    let names : l ≡ layout_legend B.inputs B.outputs L = named ∙ (ap (λ v. layout_legend v (map (text_of c.names) c.parts.outputs) L) spelled.inputs ∙ ap (λ v. layout_legend B.inputs v L) spelled.outputs) in
+    subst (λ v. IsLegend (Some v)) (sym names) (legend_fits B L layout words wide high few)

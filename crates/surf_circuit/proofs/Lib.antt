@@ -4,3 +4,5 @@ pub mod PlaceLemmas
 pub mod KindLemmas
 pub mod SurfaceLemmas
 pub mod Setting
+pub mod Drawable
+pub mod OneSurface

@@ -2,3 +2,4 @@ pub mod Inputs
 pub mod Circuits
 pub mod Surfaces
 pub mod Numbering
+pub mod Compiled

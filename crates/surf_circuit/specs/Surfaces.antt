@@ -1,6 +1,8 @@
 -- The surface and the legend of a layout.
-use Rattle.std.specs.Prelude.{ℕ, ◌≡◌, Bool, None, List, [], ◌∷◌, map, length}
+use Rattle.std.specs.Prelude.{ℕ, ◌≡◌, Bool, true, None, List, [], ◌∷◌, map, length}
+use Rattle.std.specs.List.{list_all}
 use Rattle.std.specs.Str.{bytes_eq}
+use Rattle.surf_text.specs.Bytes.{is_word}
 use Rattle.surf_lattice.specs.declared.site.Site.{Site}
 use Rattle.surf_world.specs.Systems.{System}
 use Rattle.surf_rules.specs.Names.{text_of}
@@ -63,3 +65,8 @@ CircuitsAreSet = (B : PartsOf (List ℕ)) (S : System (List ℕ)) (l : LegendTex
 -- a manifest whose inputs are set is well formed
 abbrev pub SetsKeepForm : Type 0
 SetsKeepForm = (m : ManifestText) (l : LegendText) (bits : List Bool) → IsWellFormed m → IsWellFormed (with_system m (with_inputs m.system l bits))
+
+-- the names of the inputs and outputs are tokens of bytes 33 to 126
+pub record AreWords (B : PartsOf (List ℕ)) : Type 0 where
+  pub inputs : list_all is_word B.inputs ≡ true
+  pub outputs : list_all is_word B.outputs ≡ true

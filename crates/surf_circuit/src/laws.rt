@@ -1,4 +1,5 @@
 // Laws of surfaces, each the contract of a function that does nothing.
+ghost use Rattle.surf_circuit.specs.Compiled.{SurfaceIsOne};
 ghost use Rattle.surf_circuit.specs.Surfaces.{CircuitsAreSet, LayoutsCompute, SetsKeepForm};
 
 /// The surface of every layout that settles, of a netlist whose outputs evaluate as the circuit's,
@@ -15,4 +16,9 @@ pub fn circuits_are_set()
 /// A manifest whose inputs are set is well formed, so it is printed and read back.
 pub fn sets_keep_form()
     ensures { SetsKeepForm }
+{}
+
+/// A circuit has one surface and one legend.
+pub fn surface_is_one()
+    ensures { SurfaceIsOne }
 {}

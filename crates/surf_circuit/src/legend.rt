@@ -1,8 +1,8 @@
 // The legend of a layout.
-ghost use Rattle.std.specs.Prelude.{◌<◌, ◌≡◌, All, IfOk, OnOk, length, map};
+ghost use Rattle.std.specs.Prelude.{◌<◌, ◌^◌, ◌≡◌, All, IfOk, OnOk, length, map};
 ghost use Rattle.surf_circuit.specs.Surfaces.{Decomposes, layout_legend, places};
 ghost use Rattle.surf_rules.specs.Names.{text_of};
-ghost use Rattle.surf_settle.specs.Settling.{SettlesAlways};
+ghost use Rattle.surf_settle.specs.Settling.{SettlesAlways, events_of};
 
 use std::alloc::Global;
 use surf_base::{NoMemory, Text};
@@ -70,6 +70,7 @@ pub(crate) fn legend_of(
     requires { Decomposes layout.now.netlist circuit.now }
     ensures is { IfOk result (λ l. l ≡ layout_legend (map (text_of circuit.now.names) circuit.now.parts.inputs) (map (text_of circuit.now.names) circuit.now.parts.outputs) layout.now) }
     ensures settles { OnOk result (SettlesAlways layout.now) }
+    ensures events { OnOk result (events_of layout.now < 2 ^ 64) }
 {
     let names = circuit.names();
     let events = layout.events();

@@ -5,12 +5,13 @@
 //! was. It stands on the manifest and its legend.
 #![tactic(auto)]
 
-mod compile;
+mod compiler;
 mod inputs;
 mod laws;
 mod legend;
 mod numbering;
 mod surface;
 
+pub use compiler::compile;
 pub use inputs::{SetError, set_inputs};
-pub use laws::{circuits_are_set, layouts_compute, sets_keep_form};
+pub use laws::{circuits_are_set, layouts_compute, sets_keep_form, surface_is_one};

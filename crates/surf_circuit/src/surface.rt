@@ -1,5 +1,5 @@
 // The surface of a layout as a manifest.
-ghost use Rattle.std.specs.Prelude.{◌≡◌, IfOk, OnOk, length, map, slice_index_or};
+ghost use Rattle.std.specs.Prelude.{◌<◌, ◌^◌, ◌≡◌, IfOk, OnOk, length, map, slice_index_or};
 ghost use Rattle.surf_circuit.specs.Numbering.{NumbersAll, kind_index};
 ghost use Rattle.surf_circuit.specs.Surfaces.{layout_system, plain_manifest};
 ghost use Rattle.surf_settle.specs.Plans.{IsLayout};
@@ -32,6 +32,7 @@ fn start_of(alloc: Global, kinds: &[Kind], numbers: &[u32]) -> Result<Vec<u32>, 
 pub(crate) fn manifest_of(alloc: Global, layout: &Layout) -> Result<Manifest, NoMemory>
     ensures text { IfOk result (λ m. m.text ≡ plain_manifest (layout_system layout.now)) }
     ensures layout { OnOk result (IsLayout layout.now) }
+    ensures sides { OnOk result ((layout.now.width < 2 ^ 32) × (layout.now.height < 2 ^ 32)) }
 {
     let mut names = Names::new(alloc);
     let rules = circuit_rules(alloc, &mut names)?;

@@ -1,18 +1,19 @@
 -- A legend that is read has words for names, and its inputs stand apart.
-use Rattle.std.proofs.Common.{ℕ, zero, suc, ◌≡◌, ◌+◌, ◌<◌, List, [], ◌∷◌, ◌++◌, length, refl, sym, ◌∙◌, ap, arith, Bool, true, false, ◌&&◌, ◌||◌, ◌==◌, Option, Some, None, Result, Ok, Err, cond, slice_get, ⊎_elim, subst, ◌⊎◌, inl, inr}
+use Rattle.std.proofs.Common.{ℕ, zero, suc, ◌≡◌, ◌+◌, ◌<◌, List, [], ◌∷◌, ◌++◌, length, refl, sym, ◌∙◌, ap, arith, Bool, true, false, ◌&&◌, ◌||◌, ◌==◌, ◌≤◌, ◌^◌, nat_le, nat_lt, Option, Some, None, Result, Ok, Err, cond, slice_get, ⊎_elim, subst, ◌⊎◌, inl, inr}
 use Rattle.std.specs.List.{list_all}
 use Rattle.std.specs.Prelude.{bytes_eq, codes, IfOk}
-use Rattle.std.proofs.lemmas.Bool.{and_parts, cases_Bool, eqb-true, eq-eqb, false≢true}
+use Rattle.std.proofs.lemmas.Bool.{and_parts, cases_Bool, eqb-true, eq-eqb, false≢true, ltb-true, lt-ltb}
 use Rattle.std.proofs.lemmas.Option.{slice_get_past}
 use Rattle.std.proofs.lemmas.List.Folds.{list_all-append}
-use Rattle.surf_base.specs.Decimal.{decimal_of}
+use Rattle.surf_base.specs.Decimal.{decimal_of, decimal_below, if_below, is_digit, value_from}
+use Rattle.surf_lattice.specs.Grids.{site_from}
 use Rattle.surf_lattice.specs.declared.site.Site.{Site}
 use Rattle.surf_text.specs.Bytes.{lines_of, tokens_of, is_word}
 use Rattle.surf_manifest_print.specs.declared.legend.Place.{Place}
 use Rattle.surf_manifest_print.specs.declared.legend_error.LegendError.{LegendError}
 use Rattle.surf_manifest_print.specs.declared.legend_line.LegendLine.{LegendLine}
 use Rattle.surf_manifest_print.specs.declared.legend_line.LegendLine.TheVariants.{Other, Input, Output, Events, Faulty}
-use Rattle.surf_manifest_print.specs.Legends.{LegendText, has_word, HasWords, has_site, AreApart}
+use Rattle.surf_manifest_print.specs.Legends.{LegendText, has_word, HasWords, is_place, IsLegend, has_site, AreApart}
 use Rattle.surf_manifest_print.specs.LegendTexts.{site_of, place_from, place_of, input_line, output_line, number_line, events_line, surf_line, tokens_line, legend_line, LegendParts, with_events, with_line, legend_from, unless_bad, legend_in, legend_of}
 use Rattle.surf_manifest_print.proofs.Texts.{both}
 
@@ -99,12 +100,12 @@ module _ (ps : List Place) (p : Place) (apart : AreApart ps) (new : has_site ps 
     ]
   ]
 
--- what a line says has words for names
+-- what a line says can be printed
 abbrev Worded : LegendLine → Type 0
 Worded Other = Unit {0}
-Worded (Input p) = has_word p ≡ true
-Worded (Output p) = has_word p ≡ true
-Worded (Events n) = Unit {0}
+Worded (Input p) = is_place p ≡ true
+Worded (Output p) = is_place p ≡ true
+Worded (Events n) = n < 2 ^ 64
 Worded Faulty = Unit {0}
 
 either : (b : Bool) (x y : LegendLine) → Worded x → Worded y → Worded (cond b x y)
@@ -113,21 +114,57 @@ either false x y h k = k
 
 abbrev NamedWell : Option Place → Type 0
 NamedWell None = Unit {0}
-NamedWell (Some p) = has_word p ≡ true
+NamedWell (Some p) = is_place p ≡ true
 
-named_if : (name : List ℕ) (s : Site) (b : Bool) → is_word name ≡ b → NamedWell (cond b (Some (record { name = name; site = s })) None)
-named_if name s true h = h
-named_if name s false h = tt
+-- numbers that are read fit
+abbrev Below : ℕ → Option ℕ → Type 0
+Below limit None = Unit {0}
+Below limit (Some n) = n < limit
 
-named_from : (name : List ℕ) (o : Option Site) → NamedWell (place_from name o)
-named_from name None = tt
-named_from name (Some s) = named_if name s (is_word name) refl
+if_less : (limit n : ℕ) (b : Bool) → nat_lt n limit ≡ b → Below limit (cond b (Some n) None)
+if_less limit n true h = ltb-true n limit h
+if_less limit n false h = tt
+
+below_limit : (limit : ℕ) (o : Option ℕ) → Below limit (if_below limit o)
+below_limit limit None = tt
+below_limit limit (Some n) = if_less limit n (nat_lt n limit) refl
+
+last_test : (a b c d : Bool) → (a && b && c && d) ≡ true → d ≡ true
+last_test a b c d h = (and_parts (a && b && c) d h).1
+
+if_digits : (n : ℕ) (b c : Bool) → b ≡ c → (c ≡ true → n < 2 ^ 64) → Below (2 ^ 64) (cond c (Some n) None)
+if_digits n b true h below = below refl
+if_digits n b false h below = tt
+
+decimal_fits : (t : List ℕ) → Below (2 ^ 64) (decimal_of t)
+decimal_fits t =
+    let n = value_from 0 t in
+    let all = nat_le 1 (length t) && nat_le (length t) 20 && list_all is_digit t && nat_lt n (2 ^ 64) in
+    if_digits n all all refl (λ h. ltb-true n (2 ^ 64) (last_test (nat_le 1 (length t)) (nat_le (length t) 20) (list_all is_digit t) (nat_lt n (2 ^ 64)) h))
+
+abbrev Fits : Option Site → Type 0
+Fits None = Unit {0}
+Fits (Some s) = (s.x < 2 ^ 32) × (s.y < 2 ^ 32)
+
+site_fits : (x y : Option ℕ) → Below (2 ^ 32) x → Below (2 ^ 32) y → Fits (site_from x y)
+site_fits None None h k = tt
+site_fits None (Some y) h k = tt
+site_fits (Some x) None h k = tt
+site_fits (Some x) (Some y) h k = (h, k)
+
+named_if : (name : List ℕ) (s : Site) (b : Bool) → is_word name ≡ b → Fits (Some s) → NamedWell (cond b (Some (record { name = name; site = s })) None)
+named_if name s true h k = both (is_word name) _ h (both (nat_lt s.x (2 ^ 32)) (nat_lt s.y (2 ^ 32)) (lt-ltb s.x (2 ^ 32) k.0) (lt-ltb s.y (2 ^ 32) k.1))
+named_if name s false h k = tt
+
+named_from : (name : List ℕ) (o : Option Site) → Fits o → NamedWell (place_from name o)
+named_from name None k = tt
+named_from name (Some s) k = named_if name s (is_word name) refl k
 
 named : (ts : List (List ℕ)) → NamedWell (place_of ts)
 named [] = tt
 named (name ∷ []) = tt
 named (name ∷ x ∷ []) = tt
-named (name ∷ x ∷ y ∷ []) = named_from name (site_of x y)
+named (name ∷ x ∷ y ∷ []) = named_from name (site_of x y) (site_fits (decimal_below (2 ^ 32) x) (decimal_below (2 ^ 32) y) (below_limit (2 ^ 32) (decimal_of x)) (below_limit (2 ^ 32) (decimal_of y)))
 named (name ∷ x ∷ y ∷ t ∷ ts) = tt
 
 input_worded : (o : Option Place) → NamedWell o → Worded (input_line o)
@@ -138,13 +175,13 @@ output_worded : (o : Option Place) → NamedWell o → Worded (output_line o)
 output_worded None h = tt
 output_worded (Some p) h = h
 
-number_worded : (o : Option ℕ) → Worded (number_line o)
-number_worded None = tt
-number_worded (Some n) = tt
+number_worded : (o : Option ℕ) → Below (2 ^ 64) o → Worded (number_line o)
+number_worded None h = tt
+number_worded (Some n) h = h
 
 events_worded : (ts : List (List ℕ)) → Worded (events_line ts)
 events_worded [] = tt
-events_worded (n ∷ []) = number_worded (decimal_of n)
+events_worded (n ∷ []) = number_worded (decimal_of n) (decimal_fits n)
 events_worded (n ∷ t ∷ ts) = tt
 
 surf_worded : (ts : List (List ℕ)) → Worded (surf_line ts)
@@ -160,55 +197,65 @@ tokens_worded (hash ∷ []) = tt
 tokens_worded (hash ∷ surf ∷ ts) = either (bytes_eq hash (codes "#") && bytes_eq surf (codes "surf")) _ _ (surf_worded ts) tt
 
 -- what the lines so far say
-pub record IsGood (inputs outputs : List Place) : Type 0 where
-  pub inputs_worded : list_all has_word inputs ≡ true
-  pub outputs_worded : list_all has_word outputs ≡ true
+pub record IsGood (inputs outputs : List Place) (events : Option ℕ) : Type 0 where
+  pub inputs_fit : list_all is_place inputs ≡ true
+  pub outputs_fit : list_all is_place outputs ≡ true
+  pub events_fit : Below (2 ^ 64) events
   pub apart : AreApart inputs
 
-words_more : (ps : List Place) (p : Place) → list_all has_word ps ≡ true → has_word p ≡ true → list_all has_word (ps ++ p ∷ []) ≡ true
-words_more ps p h k = list_all-append has_word ps (p ∷ []) ∙ both (list_all has_word ps) (has_word p && true) h (both (has_word p) true k refl)
+abbrev Good : LegendParts → Type 0
+Good p = IsGood p.inputs p.outputs p.events
+
+places_more : (ps : List Place) (p : Place) → list_all is_place ps ≡ true → is_place p ≡ true → list_all is_place (ps ++ p ∷ []) ≡ true
+places_more ps p h k = list_all-append is_place ps (p ∷ []) ∙ both (list_all is_place ps) (is_place p && true) h (both (is_place p) true k refl)
 
 -- what lines make of good parts, if anything
 abbrev GoodParts : Option LegendParts → Type 0
 GoodParts None = Unit {0}
-GoodParts (Some p) = IsGood p.inputs p.outputs
+GoodParts (Some p) = Good p
 
-good_input : (p : LegendParts) (q : Place) → IsGood p.inputs p.outputs → has_word q ≡ true → (b : Bool) → has_site p.inputs q.site ≡ b → GoodParts (cond b None (Some (record { inputs = p.inputs ++ q ∷ []; outputs = p.outputs; events = p.events })))
+good_input : (p : LegendParts) (q : Place) → Good p → is_place q ≡ true → (b : Bool) → has_site p.inputs q.site ≡ b → GoodParts (cond b None (Some (record { inputs = p.inputs ++ q ∷ []; outputs = p.outputs; events = p.events })))
 good_input p q g w true h = tt
 good_input p q g w false h = record {
-  inputs_worded = words_more p.inputs q g.inputs_worded w;
-  outputs_worded = g.outputs_worded;
+  inputs_fit = places_more p.inputs q g.inputs_fit w;
+  outputs_fit = g.outputs_fit;
+  events_fit = g.events_fit;
   apart = apart_more p.inputs q g.apart h;
 }
 
-good_events : (p : LegendParts) (o : Option ℕ) (n : ℕ) → IsGood p.inputs p.outputs → GoodParts (with_events p o n)
-good_events p None n g = record { inputs_worded = g.inputs_worded; outputs_worded = g.outputs_worded; apart = g.apart }
-good_events p (Some m) n g = tt
+good_events : (p : LegendParts) (o : Option ℕ) (n : ℕ) → Good p → n < 2 ^ 64 → GoodParts (with_events p o n)
+good_events p None n g h = record { inputs_fit = g.inputs_fit; outputs_fit = g.outputs_fit; events_fit = h; apart = g.apart }
+good_events p (Some m) n g h = tt
 
-good_line : (p : LegendParts) (l : LegendLine) → IsGood p.inputs p.outputs → Worded l → GoodParts (with_line p l)
+good_line : (p : LegendParts) (l : LegendLine) → Good p → Worded l → GoodParts (with_line p l)
 good_line p Other g w = g
 good_line p (Input q) g w = good_input p q g w (has_site p.inputs q.site) refl
 good_line p (Output q) g w = record {
-  inputs_worded = g.inputs_worded;
-  outputs_worded = words_more p.outputs q g.outputs_worded w;
+  inputs_fit = g.inputs_fit;
+  outputs_fit = places_more p.outputs q g.outputs_fit w;
+  events_fit = g.events_fit;
   apart = g.apart;
 }
-good_line p (Events n) g w = good_events p p.events n g
+good_line p (Events n) g w = good_events p p.events n g w
 good_line p Faulty g w = tt
 
+-- a legend that can be printed, and whose inputs stand apart
+abbrev IsSound : LegendText → Type 0
+IsSound l = IsLegend (Some l) × AreApart l.inputs
+
 abbrev GoodResult : Result LegendText LegendError → Type 0
-GoodResult (Ok l) = IsGood l.inputs l.outputs
+GoodResult (Ok l) = IsSound l
 GoodResult (Err f) = Unit {0}
 
-good_from : (inputs outputs : List Place) (o : Option ℕ) → IsGood inputs outputs → GoodResult (legend_from inputs outputs o)
+good_from : (inputs outputs : List Place) (o : Option ℕ) → IsGood inputs outputs o → GoodResult (legend_from inputs outputs o)
 good_from inputs outputs None g = tt
-good_from inputs outputs (Some n) g = g
+good_from inputs outputs (Some n) g = ((g.inputs_fit, g.outputs_fit, g.events_fit), g.apart)
 
-good_unless : (o : Option LegendParts) (line : ℕ) (more : LegendParts → Result LegendText LegendError) → GoodParts o → ((q : LegendParts) → IsGood q.inputs q.outputs → GoodResult (more q)) → GoodResult (unless_bad o line more)
+good_unless : (o : Option LegendParts) (line : ℕ) (more : LegendParts → Result LegendText LegendError) → GoodParts o → ((q : LegendParts) → Good q → GoodResult (more q)) → GoodResult (unless_bad o line more)
 good_unless None line more g next = tt
 good_unless (Some q) line more g next = next q g
 
-good_in : (line : ℕ) (p : LegendParts) (ls : List (List ℕ)) → IsGood p.inputs p.outputs → GoodResult (legend_in line p ls)
+good_in : (line : ℕ) (p : LegendParts) (ls : List (List ℕ)) → Good p → GoodResult (legend_in line p ls)
 good_in line p [] g = good_from p.inputs p.outputs p.events g
 good_in line p (l ∷ ls) g =
     good_unless (with_line p (legend_line l)) (line + 1) (λ q. legend_in (line + 1) q ls)
@@ -219,15 +266,25 @@ none_apart : AreApart []
 none_apart i j p q at_i at_j e = absurd (cc (sym (slice_get_past [] i (omega arith)) ∙ at_i))
 
 good_of : (bytes : List ℕ) → GoodResult (legend_of bytes)
-good_of bytes = good_in 0 (record { inputs = []; outputs = []; events = None }) (lines_of bytes) (record { inputs_worded = refl; outputs_worded = refl; apart = none_apart })
+good_of bytes = good_in 0 (record { inputs = []; outputs = []; events = None }) (lines_of bytes) (record { inputs_fit = refl; outputs_fit = refl; events_fit = tt; apart = none_apart })
 
-good_at : (bytes : List ℕ) (l : LegendText) → legend_of bytes ≡ Ok l → IsGood l.inputs l.outputs
+good_at : (bytes : List ℕ) (l : LegendText) → legend_of bytes ≡ Ok l → IsSound l
 good_at bytes l is = subst GoodResult is (good_of bytes)
 
+words_in : (ps : List Place) → list_all is_place ps ≡ true → list_all has_word ps ≡ true
+words_in [] h = refl
+words_in (p ∷ ps) h =
+    let q = and_parts (is_place p) (list_all is_place ps) h in
+    both (has_word p) (list_all has_word ps) (and_parts (is_word p.name) _ q.0).0 (words_in ps q.1)
+
+pub read_form : (bytes : List ℕ) (r : Result LegendText LegendError) → IfOk r (λ l. legend_of bytes ≡ Ok l) → IfOk r (λ l. IsLegend (Some l))
+read_form bytes (Ok l) is = (good_at bytes l is).0
+read_form bytes (Err f) is = tt
+
 pub read_words : (bytes : List ℕ) (r : Result LegendText LegendError) → IfOk r (λ l. legend_of bytes ≡ Ok l) → IfOk r HasWords
-read_words bytes (Ok l) is = let g = good_at bytes l is in record { inputs = g.inputs_worded; outputs = g.outputs_worded }
+read_words bytes (Ok l) is = let g = (good_at bytes l is).0 in record { inputs = words_in l.inputs g.0; outputs = words_in l.outputs g.1 }
 read_words bytes (Err f) is = tt
 
 pub read_apart : (bytes : List ℕ) (r : Result LegendText LegendError) → IfOk r (λ l. legend_of bytes ≡ Ok l) → IfOk r (λ l. AreApart l.inputs)
-read_apart bytes (Ok l) is = (good_at bytes l is).apart
+read_apart bytes (Ok l) is = (good_at bytes l is).1
 read_apart bytes (Err f) is = tt

@@ -2,7 +2,7 @@
 ghost use Rattle.std.specs.BTreeSet.{contains};
 ghost use Rattle.std.specs.Prelude.{◌≡◌, ◌&&◌, ◌==◌, ◌||◌, ℕ, IfErr, IfOk, None, Ok, OnOk, Some, [], not};
 ghost use Rattle.surf_manifest_print.specs.LegendReadings.{KnowsSites, LineRefuses, key_cmp, parts_of};
-ghost use Rattle.surf_manifest_print.specs.Legends.{AreApart, HasWords};
+ghost use Rattle.surf_manifest_print.specs.Legends.{AreApart, HasWords, IsLegend};
 ghost use Rattle.surf_manifest_print.specs.LegendTexts.{LegendRefuses, legend_from, legend_of, with_line};
 
 use crate::legend::{Legend, Place};
@@ -135,6 +135,7 @@ fn read_lines(alloc: Global, bytes: &[u8]) -> Result<Legend, LegendError>
 pub fn read_legend(alloc: Global, bytes: &[u8]) -> Result<Legend, LegendError>
     ensures ok { IfOk result (λ l. legend_of bytes.now ≡ Ok l) }
     ensures refused { IfErr result (LegendRefuses (legend_of bytes.now)) }
+    ensures form { IfOk result (λ l. IsLegend (Some l)) }
     ensures words { IfOk result HasWords }
     ensures apart { IfOk result (λ l. AreApart l.inputs) }
 {
