@@ -12,7 +12,7 @@ use Rattle.surf_blif.specs.declared.error.BlifError.TheVariants as blifs
 use Rattle.surf_logic.specs.declared.values.EvalError.{EvalError}
 use Rattle.surf_logic.specs.declared.values.EvalError.TheVariants as evals
 use Rattle.surf_top.specs.Commands.{EndsJob, answer_to_blif, answer_to_bits}
-use Rattle.surf_top.specs.Jobs.{Eval}
+use Rattle.surf_top.specs.Jobs.{Circuit, Eval}
 use Rattle.surf_top.specs.Values.{value_line, values_text, TellsValues}
 use Rattle.surf_top.specs.Writes.{Writes}
 
@@ -66,6 +66,15 @@ blif_ends bits input (blifs.MixedCover n) w kept r = (r, λ e. cc)
 blif_ends bits input (blifs.Circuit c) w kept r = (r, λ e. cc)
 blif_ends bits input (blifs.TooLarge n) w kept r = (r, λ e. cc)
 blif_ends bits input blifs.NoMemory w kept r = kept
+
+pub no_circuit_ends : (input : List ℕ) (e : BlifError) (w : Writes) → w.now ≡ w.before → Refuses input e → EndsJob Circuit input w (answer_to_blif e)
+no_circuit_ends input (blifs.Unsupported n t) w kept r = (r, λ e. cc)
+no_circuit_ends input (blifs.BadLine n) w kept r = (r, λ e. cc)
+no_circuit_ends input (blifs.BadCover n) w kept r = (r, λ e. cc)
+no_circuit_ends input (blifs.MixedCover n) w kept r = (r, λ e. cc)
+no_circuit_ends input (blifs.Circuit c) w kept r = (r, λ e. cc)
+no_circuit_ends input (blifs.TooLarge n) w kept r = (r, λ e. cc)
+no_circuit_ends input blifs.NoMemory w kept r = kept
 
 -- a circuit with another number of inputs
 pub bits_ends : (bits : List Bool) (input : List ℕ) (c : Numbered) (e : EvalError) (w : Writes) → w.now ≡ w.before → IsRead input c → HasEvalFault c bits e → EndsJob (Eval bits) input w (answer_to_bits e)

@@ -6,8 +6,10 @@ use Rattle.surf_base.specs.Known.{AppendsFront}
 use Rattle.surf_manifest.specs.Grammar.{manifest_of}
 use Rattle.surf_top.specs.declared.status.Status.{Status}
 use Rattle.surf_top.specs.declared.status.Status.TheVariants.{Done, Refused, Usage, NotEnabled, ReadFault, WriteFault, NoMemory, TooLong}
-use Rattle.surf_top.specs.Jobs.{Job, Run, Format, Eval, Step, Replay}
+use Rattle.surf_top.specs.Jobs.{Job, Run, Format, Eval, Circuit, Set, Step, Replay}
 use Rattle.surf_top.specs.Outputs.{IsText, HasText, IsRefused, FindsBad, Shows}
+use Rattle.surf_blif.specs.Blifs.{parts_of}
+use Rattle.surf_top.specs.Compiled.{HoldsCircuit}
 use Rattle.surf_top.specs.Runs.{ShowsRun}
 use Rattle.surf_top.specs.Writes.{Writes}
 
@@ -80,16 +82,22 @@ IsComplete (Some job) e status =
     (Rose e.reads_before e.reads_after → ⊥) → (Rose e.out.before e.out.now → ⊥)
     → IfSome e.left_before (λ input. length input ≤ limit → HasText job input → (status ≡ Done) ⊎ (status ≡ NoMemory))
 
--- where `run` is done, a text was written that shows a run of the manifest that was read
+-- where the answer is Done, a text was written that shows this of the input
+abbrev pub PrintsWhat : Ends → Status → (List ℕ → List ℕ → Type 0) → Type 0
+PrintsWhat e status P =
+    status ≡ Done → IfSome e.left_before (λ input. (text : List ℕ) × P input text × Appends e.out.old e.out.new text)
+
+-- what `run` writes shows a run of the manifest that was read
 abbrev pub PrintsRun : Option Job → Ends → Status → Type 0
 PrintsRun None e status = Unit {0}
-PrintsRun (Some Format) e status = Unit {0}
-PrintsRun (Some (Eval bits)) e status = Unit {0}
-PrintsRun (Some (Step times)) e status = Unit {0}
-PrintsRun (Some Replay) e status = Unit {0}
-PrintsRun (Some (Run seed count)) e status =
-    status ≡ Done
-    → IfSome e.left_before (λ input. IfOk (manifest_of input) (λ m. (text : List ℕ) × ShowsRun m.system count text × Appends e.out.old e.out.new text))
+PrintsRun (Some (Run seed count)) e status = PrintsWhat e status (λ input text. IfOk (manifest_of input) (λ m. ShowsRun m.system count text))
+PrintsRun (Some job) e status = Unit {0}
+
+-- In what `circuit` writes the grammar reads a manifest and a legend. The legend names the inputs and outputs of the circuit that was read. Whichever bits the inputs are set to, no run has more events than the legend says, and a run that cannot go on has just so many and shows each output's value.
+abbrev pub PrintsCircuit : Option Job → Ends → Status → Type 0
+PrintsCircuit None e status = Unit {0}
+PrintsCircuit (Some Circuit) e status = PrintsWhat e status (λ input text. HoldsCircuit (parts_of input) text)
+PrintsCircuit (Some job) e status = Unit {0}
 
 -- the answers that leave the output as it was
 abbrev pub IsQuiet : Status → Type 0

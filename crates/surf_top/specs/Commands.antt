@@ -11,6 +11,10 @@ use Rattle.surf_manifest.specs.declared.error.ManifestError.{ManifestError}
 use Rattle.surf_manifest.specs.declared.error.ManifestError.TheVariants as faults
 use Rattle.surf_trace.specs.declared.error.TraceError.{TraceError}
 use Rattle.surf_trace.specs.declared.error.TraceError.TheVariants as traces
+use Rattle.surf_manifest_print.specs.declared.legend_error.LegendError.{LegendError}
+use Rattle.surf_manifest_print.specs.declared.legend_error.LegendError.TheVariants as legends
+use Rattle.surf_circuit.specs.declared.inputs.SetError.{SetError}
+use Rattle.surf_circuit.specs.declared.inputs.SetError.TheVariants as sets
 use Rattle.surf_top.specs.Jobs.{Job}
 use Rattle.surf_blif.specs.declared.error.BlifError.{BlifError}
 use Rattle.surf_blif.specs.declared.error.BlifError.TheVariants as blifs
@@ -18,7 +22,7 @@ use Rattle.surf_logic.specs.declared.values.EvalError.{EvalError}
 use Rattle.surf_logic.specs.declared.values.EvalError.TheVariants as evals
 use Rattle.surf_auto.specs.declared.error.SourceError.{SourceError}
 use Rattle.surf_auto.specs.declared.error.SourceError.TheVariants as sources
-use Rattle.surf_top.specs.declared.status.Refusal.TheVariants.{Manifest, Trace, Blif, Bits, Source}
+use Rattle.surf_top.specs.declared.status.Refusal.TheVariants.{Manifest, Legend, Trace, Blif, Bits, NotInput, Source}
 use Rattle.surf_top.specs.Outputs.{IsRefused, FindsBad}
 use Rattle.surf_top.specs.Answers.{WroteWhole, WroteFront}
 use Rattle.surf_top.specs.Writes.{Writes}
@@ -60,6 +64,16 @@ answer_to (faults.TooManyRules n) = Refused (Manifest (faults.TooManyRules n))
 answer_to (faults.TooManySites n) = Refused (Manifest (faults.TooManySites n))
 answer_to faults.WrapSize = Refused (Manifest faults.WrapSize)
 answer_to faults.NoMemory = NoMemory
+
+abbrev pub answer_to_legend : LegendError → Status
+answer_to_legend (legends.BadLegend n) = Refused (Legend (legends.BadLegend n))
+answer_to_legend legends.NoLegend = Refused (Legend legends.NoLegend)
+answer_to_legend legends.NoMemory = NoMemory
+
+abbrev pub answer_to_set : SetError → Status
+answer_to_set (sets.Length found wanted) = Refused (Bits found wanted)
+answer_to_set (sets.NotInput s) = Refused (NotInput s)
+answer_to_set sets.NoMemory = NoMemory
 
 abbrev pub answer_to_trace : TraceError → Status
 answer_to_trace traces.NoTrace = Refused (Trace traces.NoTrace)

@@ -9,23 +9,13 @@ ghost use Rattle.surf_top.specs.Values.{bit_byte, values_text};
 ghost use Rattle.surf_top.specs.Writes.{Wrote, writes};
 
 use crate::Status;
+use crate::bits::bits_of;
 use crate::status::{ended, refused_bits, refused_blif};
 use std::alloc::Global;
-use surf_base::{NoMemory, Outbox, Piece, Sink, WriteFault};
+use surf_base::{Outbox, Piece, Sink, WriteFault};
 use surf_blif::read_blif;
 use surf_logic::eval;
 use surf_rules::Names;
-
-// The bits that a word of 0 and 1 spells.
-fn bits_of(alloc: Global, word: &[u8]) -> Result<Vec<bool>, NoMemory>
-    ensures { IfOk result (λ v. v.items ≡ bits_of word.now) }
-{
-    let mut bits = Vec::with_capacity(alloc, word.len()).map_err(|_| NoMemory)?;
-    for byte in word {
-        bits.push(*byte == b'1').map_err(|_| NoMemory)?;
-    }
-    Ok(bits)
-}
 
 fn bit_byte(value: bool) -> u8
     ensures { result ≡ bit_byte value }

@@ -14,6 +14,10 @@ pub enum Job<'a> {
     /// The values of a circuit's outputs where its inputs have the bits that a word of `0` and `1`
     /// spells.
     Eval { bits: &'a [u8] },
+    /// The manifest and the legend of a circuit's surface.
+    Circuit,
+    /// A manifest whose inputs are set to the bits that a word spells.
+    Set { bits: &'a [u8] },
     /// The states of an automaton's cells after so many steps.
     Step { times: u32 },
     /// Whether a trace is a run of the manifest before it.
@@ -31,8 +35,8 @@ fn job_for<'a>(command: &Command<'a>) -> Option<Job<'a>>
         }),
         Command::Format => Some(Job::Format),
         Command::Eval { bits } => Some(Job::Eval { bits: *bits }),
-        Command::Circuit => None,
-        Command::Set { .. } => None,
+        Command::Circuit => Some(Job::Circuit),
+        Command::Set { bits } => Some(Job::Set { bits: *bits }),
         Command::Automaton { .. } => None,
         Command::Step { times } => Some(Job::Step { times: *times }),
         Command::Replay => Some(Job::Replay),

@@ -5,8 +5,10 @@
 //! any source and sinks; `specs/Outputs.antt` and `specs/Answers.antt` hold the definitions.
 #![tactic(auto)]
 
+mod bits;
 mod canonical;
 mod cells;
+mod compiling;
 mod evaluating;
 mod events;
 mod job;
@@ -14,6 +16,7 @@ mod print;
 mod reasons;
 mod replaying;
 mod run;
+mod setting;
 mod status;
 mod stepping;
 mod top;

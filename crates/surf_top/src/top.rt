@@ -1,16 +1,18 @@
 ghost use Rattle.std.specs.Prelude.{◌≡◌, ◌≤◌, length, map, string_bytes};
-ghost use Rattle.surf_top.specs.Answers.{HasCauses, IsComplete, IsQuiet, PrintsRun, ends};
+ghost use Rattle.surf_top.specs.Answers.{HasCauses, IsComplete, IsQuiet, PrintsCircuit, PrintsRun, ends};
 ghost use Rattle.surf_top.specs.Commands.{EndsJob};
 ghost use Rattle.surf_top.specs.Notes.{Notes, note_of};
 ghost use Rattle.surf_top.specs.Jobs.{job_of, meant};
 ghost use Rattle.surf_top.specs.Writes.{writes};
 
 use crate::canonical::format;
+use crate::compiling::compile_circuit;
 use crate::evaluating::evaluate;
 use crate::job::read_job;
 use crate::reasons::note;
 use crate::replaying::check_trace;
 use crate::run::run;
+use crate::setting::set;
 use crate::stepping::show_generation;
 use crate::{Job, Status};
 use std::alloc::Global;
@@ -29,6 +31,8 @@ fn carry_out<K: Sink>(alloc: Global, job: &Job<'_>, input: Vec<u8>, out: &mut K)
         Job::Run { seed, count } => run(alloc, input, *seed, *count, out),
         Job::Format => format(alloc, input, out),
         Job::Eval { bits } => evaluate(alloc, input, *bits, out),
+        Job::Circuit => compile_circuit(alloc, input, out),
+        Job::Set { bits } => set(alloc, input, *bits, out),
         Job::Step { times } => show_generation(alloc, input, *times, out),
         Job::Replay => check_trace(alloc, input, out),
     }
@@ -74,6 +78,9 @@ pub fn surf<S: Source, K: Sink, N: Sink>(
         (ends S.left S.faults source.old source.new (writes K.written K.faults out.old out.new))
         result }
     ensures runs { PrintsRun (job_of (map string_bytes words.now))
+        (ends S.left S.faults source.old source.new (writes K.written K.faults out.old out.new))
+        result }
+    ensures circuits { PrintsCircuit (job_of (map string_bytes words.now))
         (ends S.left S.faults source.old source.new (writes K.written K.faults out.old out.new))
         result }
     ensures quiet { IsQuiet result → out.new ≡ out.old }
