@@ -1,5 +1,5 @@
 -- The text of a logical line that was taken.
-use Rattle.std.specs.Prelude.{ℕ, List, Option, Some, None}
+use Rattle.std.specs.Prelude.{ℕ, List}
 use Rattle.surf_blif.specs.declared.logical.LogicalLine.{LogicalLine}
 use Rattle.std.specs.Option.{option_map_or}
 

@@ -15,7 +15,9 @@ pub fn cut_line(line: &[u8]) -> &[u8]
 
 /// What stands before the `\` at the end of a cut line that goes on in the next one.
 pub fn before_join(piece: &[u8]) -> Option<&[u8]>
-    ensures some { IfSome result (λ front. (goes_on piece.now ≡ true) × (front.now ≡ front_of piece.now) × (length front.now < length piece.now)) }
+    ensures some { IfSome result
+        (λ front. (goes_on piece.now ≡ true) × (front.now ≡ front_of piece.now)
+        × (length front.now < length piece.now)) }
     ensures none { IfNone result (goes_on piece.now ≡ false) }
 {
     if piece.is_empty() {

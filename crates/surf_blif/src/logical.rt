@@ -39,9 +39,17 @@ impl<'a> LogicalLines<'a> {
     // Joins the text of a logical line whose first physical line goes on: `front` is what stands
     // before its `\`.
     fn join(&mut self, front: &[u8]) -> Result<(), NoMemory>
-        ensures joined { IfOk result (λ _. (k : ℕ) → joined_from (self.old.lines.number + 1) (Some (record { number = k; text = front.now ++ 32 ∷ [] })) (lines_of self.old.lines.left) ≡ record { number = k; text = self.new.joined.items } ∷ joined_from (self.new.lines.number + 1) None (lines_of self.new.lines.left)) }
-        ensures within { IfOk result (λ _. length self.new.joined.items + length self.new.lines.left ≤ length front.now + 1 + length self.old.lines.left) }
-        ensures shorter { IfOk result (λ _. length self.new.lines.left ≤ length self.old.lines.left) }
+        ensures joined { IfOk result
+            (λ _. (k : ℕ) → joined_from (self.old.lines.number + 1)
+            (Some (record { number = k; text = front.now ++ 32 ∷ [] }))
+            (lines_of self.old.lines.left)
+            ≡ record { number = k; text = self.new.joined.items } ∷ joined_from
+            (self.new.lines.number + 1) None (lines_of self.new.lines.left)) }
+        ensures within { IfOk result
+            (λ _. length self.new.joined.items + length self.new.lines.left
+            ≤ length front.now + 1 + length self.old.lines.left) }
+        ensures shorter { IfOk result
+            (λ _. length self.new.lines.left ≤ length self.old.lines.left) }
     {
         self.joined.clear();
         put_part(&mut self.joined, front)?;
@@ -60,9 +68,17 @@ impl<'a> LogicalLines<'a> {
 
     /// Takes the next logical line.
     pub fn next(&mut self) -> Result<Option<LogicalLine<'a>>, NoMemory>
-        ensures line { IfOk result (λ o. IfSome o (λ l. joined_from (self.old.lines.number + 1) None (lines_of self.old.lines.left) ≡ record { number = l.number; text = text_by l self.new.joined.items } ∷ joined_from (self.new.lines.number + 1) None (lines_of self.new.lines.left))) }
-        ensures part { IfOk result (λ o. IfSome o (λ l. length (text_by l self.new.joined.items) + length self.new.lines.left ≤ length self.old.lines.left)) }
-        ensures shorter { IfOk result (λ o. IfSome o (λ l. length self.new.lines.left < length self.old.lines.left)) }
+        ensures line { IfOk result
+            (λ o. IfSome o (λ l. joined_from (self.old.lines.number + 1) None
+            (lines_of self.old.lines.left)
+            ≡ record { number = l.number; text = text_by l self.new.joined.items } ∷ joined_from
+            (self.new.lines.number + 1) None (lines_of self.new.lines.left))) }
+        ensures part { IfOk result
+            (λ o. IfSome o (λ l. length
+            (text_by l self.new.joined.items) + length self.new.lines.left
+            ≤ length self.old.lines.left)) }
+        ensures shorter { IfOk result
+            (λ o. IfSome o (λ l. length self.new.lines.left < length self.old.lines.left)) }
         ensures end { IfOk result (λ o. IfNone o (self.old.lines.left ≡ [])) }
     {
         let Some(line) = self.lines.next() else {

@@ -1,17 +1,13 @@
 // The reader of a text.
-ghost use Rattle.std.specs.Prelude.{◌≡◌, ◌+◌, ◌<◌, ◌≤◌, ◌^◌, ℕ, Ok, IfOk, IfErr, IfSome, IfNone, None, true, length, map};
+ghost use Rattle.std.specs.Prelude.{◌≡◌, ◌<◌, ◌≤◌, Ok, IfOk, IfErr, true, length};
 ghost use Rattle.std.specs.List.{list_all};
-ghost use Rattle.surf_text.specs.Bytes.{lines_of};
 ghost use Rattle.surf_logic.specs.declared.turns.CircuitError.{CircuitError};
 ghost use Rattle.surf_logic.specs.Answers.{HasCircuitFault};
 ghost use Rattle.surf_logic.specs.Order.{IsOrderOf};
 ghost use Rattle.surf_logic.specs.Renamed.{AreNamed};
-ghost use Rattle.surf_blif.specs.Answers.{HoldsError, IsReadAs, Tells, fault_in};
+ghost use Rattle.surf_blif.specs.Answers.{HoldsError, IsReadAs, Tells};
 ghost use Rattle.surf_blif.specs.Blifs.{IsRead, Refuses, text_fault};
-ghost use Rattle.surf_blif.specs.Drafts.{HasRoom, IsDraft, held_by, numbered_by, numbered_parts, reached_by, rows_fit};
-ghost use Rattle.surf_blif.specs.Grammar.{placed};
-ghost use Rattle.surf_blif.specs.Logical.{joined_from, logical_lines};
-ghost use Rattle.surf_blif.specs.Steps.{at_start, read_on};
+ghost use Rattle.surf_blif.specs.Drafts.{IsDraft, held_by, numbered_by, rows_fit};
 
 use crate::draft::{COST_LIMIT, Draft};
 use crate::error::BlifError;
@@ -54,7 +50,9 @@ fn circuit_of(alloc: Global, draft: Draft) -> Result<Circuit, BlifError>
     requires rows { list_all rows_fit draft.equations.items ≡ true }
     ensures named { AreNamed (numbered_by draft) }
     ensures order { IfOk result (IsOrderOf (numbered_by draft)) }
-    ensures refused { IfErr result (λ e. (error : CircuitError) × HasCircuitFault (numbered_by draft) error × HoldsError error e) }
+    ensures refused { IfErr result
+        (λ e. (error : CircuitError) × HasCircuitFault (numbered_by draft) error
+        × HoldsError error e) }
 {
     // the names tell that they are distinct
     let _name_count = draft.names.len();
