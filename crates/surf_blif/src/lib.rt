@@ -12,12 +12,11 @@ mod error;
 mod joins;
 mod kinds;
 mod laws;
+mod logical;
 mod numbering;
 mod reader;
 mod reading;
 mod rows;
-#[cfg(test)]
-mod tests;
 
 pub use error::BlifError;
 pub use laws::eval_is_of_text;

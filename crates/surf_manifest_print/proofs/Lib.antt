@@ -4,3 +4,6 @@ pub mod Printed
 pub mod Segments
 pub mod Whole
 pub mod PrintLemmas
+pub mod SiteKeys
+pub mod LegendRead
+pub mod LegendBack

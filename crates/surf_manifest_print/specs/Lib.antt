@@ -1,3 +1,5 @@
 pub mod Legends
+pub mod LegendTexts
+pub mod LegendReadings
 pub mod Prints
 pub mod Rows

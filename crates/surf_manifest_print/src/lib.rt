@@ -8,16 +8,19 @@
 mod colours;
 mod laws;
 mod legend;
+mod legend_error;
+mod legend_line;
 mod legend_lines;
+mod legend_reader;
 mod print;
 mod printer;
 mod room;
 mod rows;
 mod rules;
 mod settings;
-#[cfg(test)]
-mod tests;
 
-pub use laws::{print_is_kept, print_is_read};
+pub use laws::{legend_is_read, print_is_kept, print_is_read};
 pub use legend::{Legend, Place};
+pub use legend_error::LegendError;
+pub use legend_reader::read_legend;
 pub use print::print_manifest;

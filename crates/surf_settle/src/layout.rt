@@ -79,6 +79,14 @@ impl Layout {
         self.height
     }
 
+    /// The kinds of the sites, in row-major order.
+    pub fn kinds(&self) -> &[Kind]
+        ensures is { result.now ≡ self.now.kinds }
+        ensures layout { IsLayout self.now }
+    {
+        &self.kinds
+    }
+
     /// The kind of a site.
     pub fn kind(&self, site: Site) -> Kind
         requires { IsInside (grid_of self.now) site }

@@ -1,46 +1,57 @@
--- Texts that are flushed, and notes.
-use Rattle.std.proofs.Common.{ℕ, ◌≡◌, ◌≤◌, List, [], ◌++◌, Option, Result, Ok, Err, OnOk, OnErr, sym, ◌∙◌, ap, subst, append-nil}
+-- Texts that are emitted in parts, and texts that were written.
+use Rattle.std.proofs.Common.{ℕ, ◌≡◌, ◌≤◌, List, [], ◌∷◌, ◌++◌, Option, Result, Ok, Err, OnOk, OnErr, IsErr, sym, ◌∙◌, ap, append_assoc, append-nil}
 use Rattle.std.specs.Io.KnownBytes.{Appends}
+use Rattle.surf_base.specs.Causes.{Rose, HasCause}
 use Rattle.surf_base.specs.Known.{AppendsFront}
-use Rattle.surf_base.specs.Emits.{Sent, Emits}
+use Rattle.surf_base.specs.Emits.{Sent, Emits, outlet}
 use Rattle.surf_base.proofs.KnownLemmas.{front_of}
-use Rattle.surf_base.proofs.EmitLemmas.{after_whole, sent_nothing}
+use Rattle.surf_base.proofs.EmitLemmas.{emits_cut, cut_longer, after_flush, wrote_all, wrote_front}
 use Rattle.surf_top.specs.Notes.{Notes}
+use Rattle.surf_top.specs.Writes.{Writes, Wrote}
 
--- a text was taken, and then all that is held was sent
-pub after_flush : {T E : Type 0} (old mid new : Option (List ℕ)) (held kept left : List ℕ) (a b c : ℕ) (xs : List ℕ) (r : Result T E) → Sent old mid held kept xs → a ≤ b → Emits mid new kept left b c [] r → Emits old new held left a c xs r
-after_flush old mid new held kept left a b c xs r s le e =
-    subst (λ (t : List ℕ). Emits old new held left a c t r) (append-nil xs) (after_whole old mid new held kept left a b c xs [] r s le e)
+-- the sink failed at the first of two texts, and another call answers the fault
+pub cut_before : {T U E : Type 0} (old new : Option (List ℕ)) (held left : List ℕ) (a c : ℕ) (xs ys : List ℕ) (q : Result T E) (r : Result U E) → IsErr q → IsErr r → Emits (outlet old held a) (outlet new left c) xs q → Emits (outlet old held a) (outlet new left c) (xs ++ ys) r
+cut_before old new held left a c xs ys (Ok x) r is out e = cc
+cut_before old new held left a c xs ys (Err x) r is out e = emits_cut old new held left a c (xs ++ ys) r out (cut_longer old new held left xs ys e.cut) e.later e.cause
 
--- nothing was emitted
-pub nothing : {E : Type 0} (old : Option (List ℕ)) (held : List ℕ) (a : ℕ) → a ≤ a → Emits {T = Unit {0}} {E = E} old old held held a a [] (Ok tt)
-nothing old held a le = record { whole = sent_nothing old held; front = tt; later = le; cause = tt }
+-- a text was written
+pub text_written : {T E : Type 0} (w : Writes) (text : List ℕ) (r : Result T E) → OnOk r (Appends w.old w.new text) → OnErr r (AppendsFront w.old w.new text) → HasCause w.before w.now r → Wrote w text r
+text_written w text r whole front cause = record { whole = whole; front = front; later = cause.later; cause = cause.failed }
 
-pub all_sent : (old new : Option (List ℕ)) (held left text : List ℕ) → held ≡ [] → left ≡ [] → Sent old new held left text → Appends old new text
-all_sent old new held left text none empty s =
-    subst (λ (t : List ℕ). Appends old new t)
-    (sym (append-nil s.sent) ∙ ap (λ t. s.sent ++ t) (sym empty) ∙ s.all ∙ ap (λ t. t ++ text) none)
-    s.appended
+-- a text was printed where nothing was held, and then all that was held was sent
+pub printed : {T E : Type 0} (w : Writes) (mid : Option (List ℕ)) (held kept left : List ℕ) (b : ℕ) (text : List ℕ) (r : Result T E) → held ≡ [] → Sent w.old mid held kept text → w.before ≤ b → Emits (outlet mid kept b) (outlet w.new left w.now) [] r → OnOk r (left ≡ []) → Wrote w text r
+printed w mid held kept left b text r none sent le e empty =
+    let all : Emits (outlet w.old held w.before) (outlet w.new left w.now) text r = after_flush w.old mid w.new held kept left w.before b w.now text r sent le e in
+    record {
+      whole = wrote_all w.old w.new held left w.before w.now text r none all empty;
+      front = wrote_front w.old w.new held left w.before w.now text r none all;
+      later = all.later;
+      cause = all.cause;
+    }
 
-pub front_all : (old new : Option (List ℕ)) (text : List ℕ) → Appends old new text → AppendsFront old new text
+-- a text was cut short where nothing was held, and another call answers the fault
+pub printed_cut : {T U E : Type 0} (w : Writes) (held left text : List ℕ) (q : Result T E) (r : Result U E) → IsErr q → IsErr r → held ≡ [] → Emits (outlet w.old held w.before) (outlet w.new left w.now) text q → Wrote w text r
+printed_cut w held left text (Ok x) r is out none e = cc
+printed_cut w held left text (Err x) (Ok y) is out none e = cc
+printed_cut w held left text (Err x) (Err y) is out none e = record {
+  whole = tt;
+  front = wrote_front w.old w.new held left w.before w.now text (Err x) none e;
+  later = e.later;
+  cause = e.cause;
+}
+
+front_all : (old new : Option (List ℕ)) (text : List ℕ) → Appends old new text → AppendsFront old new text
 front_all old new text p = front_of old new text [] text (append-nil text) p
 
-pub front_alone : (old new : Option (List ℕ)) (held text : List ℕ) → held ≡ [] → AppendsFront old new (held ++ text) → AppendsFront old new text
-front_alone old new held text none f = subst (λ (t : List ℕ). AppendsFront old new (t ++ text)) none f
+-- a line was written whole, or a front of it
+pub noted : {T E : Type 0} (w : Writes) (line : List ℕ) (r : Result T E) → OnOk r (Appends w.old w.new line) → OnErr r (AppendsFront w.old w.new line) → w.before ≤ w.now → OnErr r (Rose w.before w.now) → Notes w line
+noted w line (Ok x) whole front later cause =
+    record { front = front_all w.old w.new line whole; whole = λ quiet. whole; later = later }
+noted w line (Err x) whole front later cause =
+    record { front = front; whole = λ quiet. absurd (quiet cause); later = later }
 
--- a line was emitted whole, or a front of it
-pub noted : {T E : Type 0} (old new : Option (List ℕ)) (held left : List ℕ) (a c : ℕ) (line : List ℕ) (r : Result T E) → held ≡ [] → Emits old new held left a c line r → OnOk r (left ≡ []) → Notes old new a c line
-noted old new held left a c line (Ok x) none e empty =
-    let whole : Appends old new line = all_sent old new held left line none empty e.whole in
-    record { front = front_all old new line whole; whole = λ quiet. whole; later = e.later }
-noted old new held left a c line (Err x) none e empty =
-    record { front = front_alone old new held line none e.front; whole = λ quiet. absurd (quiet e.cause); later = e.later }
-
--- what a printer wrote that held nothing before and holds nothing after
-pub wrote_all : {T E : Type 0} (old new : Option (List ℕ)) (held left : List ℕ) (a c : ℕ) (text : List ℕ) (r : Result T E) → held ≡ [] → Emits old new held left a c text r → OnOk r (left ≡ []) → OnOk r (Appends old new text)
-wrote_all old new held left a c text (Ok x) none e empty = all_sent old new held left text none empty e.whole
-wrote_all old new held left a c text (Err x) none e empty = tt
-
-pub wrote_front : {T E : Type 0} (old new : Option (List ℕ)) (held left : List ℕ) (a c : ℕ) (text : List ℕ) (r : Result T E) → held ≡ [] → Emits old new held left a c text r → OnErr r (AppendsFront old new text)
-wrote_front old new held left a c text (Ok x) none e = tt
-wrote_front old new held left a c text (Err x) none e = front_alone old new held text none e.front
+-- the line of a refusal: its words and what follows them in four parts
+pub refusal_line : (words a b c d all tail : List ℕ) → all ≡ words ++ tail → a ++ (b ++ (c ++ d)) ≡ tail → words ++ (a ++ (b ++ (c ++ (d ++ 10 ∷ [])))) ≡ all ++ 10 ∷ []
+refusal_line words a b c d all tail is parts =
+    let e : (words ++ (a ++ (b ++ (c ++ d)))) ++ 10 ∷ [] ≡ words ++ (a ++ (b ++ (c ++ (d ++ 10 ∷ [])))) = simp append_assoc in
+    sym e ∙ ap (λ s. s ++ 10 ∷ []) (ap (λ s. words ++ s) parts ∙ sym is)

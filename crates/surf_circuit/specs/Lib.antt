@@ -1,0 +1,5 @@
+pub mod Inputs
+pub mod Circuits
+pub mod Surfaces
+pub mod Numbering
+pub mod Compiled

@@ -1,0 +1,43 @@
+// The surface of a layout as a manifest.
+ghost use Rattle.std.specs.Prelude.{◌<◌, ◌^◌, ◌≡◌, IfOk, OnOk, length, map, slice_index_or};
+ghost use Rattle.surf_circuit.specs.Numbering.{NumbersAll, kind_index};
+ghost use Rattle.surf_circuit.specs.Surfaces.{layout_system, plain_manifest};
+ghost use Rattle.surf_settle.specs.Plans.{IsLayout};
+
+use crate::numbering::{kind_index, number_kinds};
+use std::alloc::Global;
+use surf_base::NoMemory;
+use surf_lattice::{Grid, Square};
+use surf_manifest::Manifest;
+use surf_rules::Names;
+use surf_settle::Layout;
+use surf_tiles::{Kind, circuit_rules};
+
+// The number of each site's name.
+fn start_of(alloc: Global, kinds: &[Kind], numbers: &[u32]) -> Result<Vec<u32>, NoMemory>
+    requires { length numbers.now ≡ 32 }
+    ensures { IfOk result (λ v. v.items ≡ map (λ k. slice_index_or numbers.now (kind_index k) 0) kinds.now) }
+{
+    let mut start = Vec::with_capacity(alloc, kinds.len()).map_err(|_| NoMemory)?;
+    for kind in kinds {
+        start
+            .push(numbers[kind_index(*kind)])
+            .map_err(|_| NoMemory)?;
+    }
+    Ok(start)
+}
+
+/// The manifest of the surface of a layout: the rules of circuits, the blank name of each site's
+/// kind, no options and no colormap.
+pub(crate) fn manifest_of(alloc: Global, layout: &Layout) -> Result<Manifest, NoMemory>
+    ensures text { IfOk result (λ m. m.text ≡ plain_manifest (layout_system layout.now)) }
+    ensures layout { OnOk result (IsLayout layout.now) }
+    ensures sides { OnOk result ((layout.now.width < 2 ^ 32) × (layout.now.height < 2 ^ 32)) }
+{
+    let mut names = Names::new(alloc);
+    let rules = circuit_rules(alloc, &mut names)?;
+    let numbers = number_kinds(alloc, &mut names)?;
+    let start = start_of(alloc, layout.kinds(), &numbers)?;
+    let grid = Grid::Square(Square::new(layout.width(), layout.height()));
+    Ok(Manifest::assemble(alloc, grid, names, rules, start))
+}
