@@ -29,7 +29,8 @@ pub enum SetError {
 fn name_at(manifest: &Manifest, site: Site) -> u32
     requires { IsInside manifest.now.text.system.surface.grid site }
     ensures below { result < length manifest.now.names }
-    ensures name { slice_get manifest.now.text.system.start (place manifest.now.text.system.surface.grid site) ≡ Some (text_of manifest.now.names result) }
+    ensures name { let S = manifest.now.text.system in
+        slice_get S.start (place S.surface.grid site) ≡ Some (text_of manifest.now.names result) }
 {
     let grid = manifest.grid();
     manifest.start()[site.y as usize * grid.width() as usize + site.x as usize]
@@ -52,7 +53,8 @@ fn is_unset(manifest: &Manifest, site: Site) -> bool
 // The site of the first place that is no unset input.
 fn first_set(manifest: &Manifest, inputs: &[Place]) -> Option<Site>
     ensures none { IfNone result (first_set manifest.now.text.system inputs.now ≡ None) }
-    ensures some { IfSome result (λ s. first_set manifest.now.text.system inputs.now ≡ Some (SetError.NotInput s)) }
+    ensures some { IfSome result (λ s.
+        first_set manifest.now.text.system inputs.now ≡ Some (SetError.NotInput s)) }
 {
     for place in inputs {
         if !is_unset(manifest, place.site) {
@@ -68,7 +70,8 @@ fn put_bits(manifest: &mut Manifest, inputs: &[Place], bits: &[bool], zero: u32,
     requires zero { slice_get manifest.old.names zero ≡ Some (bit_name false) }
     requires one { slice_get manifest.old.names one ≡ Some (bit_name true) }
     requires same { length bits.now ≡ length inputs.now }
-    ensures { manifest.new ≡ with_start manifest.old (with_bits manifest.old.text.system.surface.grid manifest.old.text.system.start inputs.now bits.now) }
+    ensures { let S = manifest.old.text.system in
+        manifest.new ≡ with_start manifest.old (with_bits S.surface.grid S.start inputs.now bits.now) }
 {
     for (i, place) in inputs.iter().enumerate() {
         manifest.put(place.site, if bits[i] { one } else { zero });
@@ -79,7 +82,8 @@ fn intern(manifest: &mut Manifest, bytes: &[u8]) -> Result<u32, SetError>
     requires name { is_name bytes.now ≡ true }
     requires room { length manifest.old.names < 2 ^ 32 - 1 }
     ensures found { IfOk result (λ k. slice_get manifest.new.names k ≡ Some bytes.now) }
-    ensures grown { OnOk result (manifest.new ≡ record manifest.old { names = with_text manifest.old.names bytes.now }) }
+    ensures grown { OnOk result
+        (manifest.new ≡ record manifest.old { names = with_text manifest.old.names bytes.now }) }
     ensures err { OnErr result (manifest.new ≡ manifest.old) }
     ensures cause { IfErr result (λ e. e ≡ SetError.NoMemory) }
 {
@@ -90,8 +94,8 @@ fn intern(manifest: &mut Manifest, bytes: &[u8]) -> Result<u32, SetError>
 ///
 /// The manifest has fewer than 2^32 - 2 names. `Length` exactly where there are not as many bits as
 /// inputs; then `NotInput` exactly where an input's site is outside or doesn't hold `?`. After a
-/// refusal every site holds what it held; after `NoMemory` the names `0` and `1` may have been added.
-/// The manifest takes what memory it needs by itself.
+/// refusal every site holds what it held; after `NoMemory` the names `0` and `1` may have been
+/// added. The manifest takes what memory it needs by itself.
 pub fn set_inputs(
     _alloc: Global,
     manifest: &mut Manifest,
@@ -99,11 +103,14 @@ pub fn set_inputs(
     bits: &[bool],
 ) -> Result<(), SetError>
     requires room { length manifest.old.names < 2 ^ 32 - 2 }
-    ensures set { OnOk result (manifest.new.text ≡ with_system manifest.old.text (with_inputs manifest.old.text.system legend.now bits.now)) }
+    ensures set { OnOk result (manifest.new.text
+        ≡ with_system manifest.old.text (with_inputs manifest.old.text.system legend.now bits.now)) }
     ensures sound { OnOk result (set_fault manifest.old.text.system legend.now bits.now ≡ None) }
-    ensures refused { IfErr result (SetRefuses (set_fault manifest.old.text.system legend.now bits.now)) }
+    ensures refused { IfErr result
+        (SetRefuses (set_fault manifest.old.text.system legend.now bits.now)) }
     ensures kept { OnErr result (manifest.new.text ≡ manifest.old.text) }
-    ensures unchanged { IfErr result (λ e. (e ≡ SetError.NoMemory → ⊥) → manifest.new ≡ manifest.old) }
+    ensures unchanged { IfErr result (λ e.
+        (e ≡ SetError.NoMemory → ⊥) → manifest.new ≡ manifest.old) }
 {
     let inputs = legend.inputs.as_slice();
     if bits.len() != inputs.len() {

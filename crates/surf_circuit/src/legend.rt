@@ -32,7 +32,8 @@ fn input_places(
 ) -> Result<Vec<Place>, NoMemory>
     requires named { All (λ n. n < length names.now) inputs.now }
     requires same { length inputs.now ≡ layout.now.netlist.inputs }
-    ensures { IfOk result (λ v. v.items ≡ places (map (text_of names.now) inputs.now) layout.now.inputs) }
+    ensures { IfOk result (λ v.
+        v.items ≡ places (map (text_of names.now) inputs.now) layout.now.inputs) }
 {
     let mut found = Vec::with_capacity(alloc, inputs.len()).map_err(|_| NoMemory)?;
     for i in 0..layout.inputs() {
@@ -51,7 +52,8 @@ fn output_places(
 ) -> Result<Vec<Place>, NoMemory>
     requires named { All (λ n. n < length names.now) outputs.now }
     requires same { length outputs.now ≡ length layout.now.netlist.outputs }
-    ensures { IfOk result (λ v. v.items ≡ places (map (text_of names.now) outputs.now) layout.now.outputs) }
+    ensures { IfOk result (λ v.
+        v.items ≡ places (map (text_of names.now) outputs.now) layout.now.outputs) }
 {
     let mut found = Vec::with_capacity(alloc, outputs.len()).map_err(|_| NoMemory)?;
     for i in 0..layout.outputs() {
@@ -68,7 +70,9 @@ pub(crate) fn legend_of(
     layout: &Layout,
 ) -> Result<Legend, NoMemory>
     requires { Decomposes layout.now.netlist circuit.now }
-    ensures is { IfOk result (λ l. l ≡ layout_legend (map (text_of circuit.now.names) circuit.now.parts.inputs) (map (text_of circuit.now.names) circuit.now.parts.outputs) layout.now) }
+    ensures is { let text = text_of circuit.now.names in
+        let parts = circuit.now.parts in
+        IfOk result (λ l. l ≡ layout_legend (map text parts.inputs) (map text parts.outputs) layout.now) }
     ensures settles { OnOk result (SettlesAlways layout.now) }
     ensures events { OnOk result (events_of layout.now < 2 ^ 64) }
 {

@@ -1,8 +1,10 @@
 //! Circuits on the surface.
 //!
-//! `set_inputs` puts bits at the inputs of a surface that was made of a circuit: exactly the system
-//! that `with_inputs` in `specs/Inputs.antt` gives, or the first fault, and then every site is as it
-//! was. It stands on the manifest and its legend.
+//! `compile` answers the surface of a circuit as a manifest, with a legend. Its contract says which
+//! surface that is, and besides, in the words of equations and runs alone, that it computes the
+//! circuit in every run. `set_inputs` puts bits at the inputs of such a surface, exactly as
+//! `with_inputs` in `specs/Inputs.antt` says, or answers the first fault, and then every site is as
+//! it was. It stands on netlists, drawings and layouts, and on the manifest and its legend.
 #![tactic(auto)]
 
 mod compiler;

@@ -16,7 +16,8 @@ use surf_tiles::{Kind, circuit_rules};
 // The number of each site's name.
 fn start_of(alloc: Global, kinds: &[Kind], numbers: &[u32]) -> Result<Vec<u32>, NoMemory>
     requires { length numbers.now ≡ 32 }
-    ensures { IfOk result (λ v. v.items ≡ map (λ k. slice_index_or numbers.now (kind_index k) 0) kinds.now) }
+    ensures { IfOk result (λ v.
+        v.items ≡ map (λ k. slice_index_or numbers.now (kind_index k) 0) kinds.now) }
 {
     let mut start = Vec::with_capacity(alloc, kinds.len()).map_err(|_| NoMemory)?;
     for kind in kinds {

@@ -10,8 +10,11 @@ use surf_manifest::Manifest;
 use surf_manifest_print::{Legend, Place, print_manifest};
 
 const WIRE: &[u8] = b".inputs a\n.outputs a\n";
+
 const INVERTER: &[u8] = b".inputs a\n.outputs b\n.names a b\n0 1\n";
+
 const UNUSED: &[u8] = b".inputs a u\n.outputs o k\n.names a a o\n11 1\n.names k\n1\n";
+
 const C17: &[u8] = b".model c17
 .inputs 1 2 3 6 7
 .outputs 22 23

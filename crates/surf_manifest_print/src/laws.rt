@@ -12,7 +12,8 @@ pub fn print_is_kept()
     ensures { KeepsFormat }
 {}
 
-/// What is printed with a legend has that legend, where its names are words and its inputs stand apart.
+/// What is printed with a legend has that legend, where its names are words and its inputs stand
+/// apart.
 pub fn legend_is_read()
     ensures { ReadsLegend }
 {}

@@ -31,7 +31,8 @@ fn read_site(x: &[u8], y: &[u8]) -> Option<Site>
 // The name and the site of the tokens NAME X Y.
 fn named_site(line: &[u8]) -> Option<(&[u8], Site)>
     ensures none { IfNone result (place_of (tokens_of line.now) ≡ None) }
-    ensures some { IfSome result (λ r. place_of (tokens_of line.now) ≡ Some (record { name = r.0.now; site = r.1 })) }
+    ensures some { IfSome result (λ r.
+        place_of (tokens_of line.now) ≡ Some (record { name = r.0.now; site = r.1 })) }
 {
     let (name, rest) = next_token(line)?;
     let (x, rest) = next_token(rest)?;

@@ -26,7 +26,8 @@ pub struct LegendReading {
 // Adds a site to a set, and answers whether it is new.
 fn add_site(taken: &mut BTreeSet<(u32, u32)>, site: Site) -> Result<bool, NoMemory>
     ensures added { IfOk result (λ new. new ≡ not (contains key_cmp taken.old (site.y, site.x))) }
-    ensures sites { OnOk result ((y x : ℕ) → contains key_cmp taken.new (y, x) ≡ (((site.y == y) && (site.x == x)) || contains key_cmp taken.old (y, x))) }
+    ensures sites { OnOk result ((y x : ℕ) → contains key_cmp taken.new (y, x)
+        ≡ (((site.y == y) && (site.x == x)) || contains key_cmp taken.old (y, x))) }
 {
     match taken.insert((site.y, site.x)) {
         Ok(new) => Ok(new),
@@ -65,9 +66,11 @@ impl LegendReading {
 
     fn take_input(&mut self, number: u64, place: Place) -> Result<(), LegendError>
         requires { KnowsSites self.old }
-        ensures said { OnOk result (with_line (parts_of self.old) (LegendLine.Input place) ≡ Some (parts_of self.new)) }
+        ensures said { OnOk result
+            (with_line (parts_of self.old) (LegendLine.Input place) ≡ Some (parts_of self.new)) }
         ensures sites { OnOk result (KnowsSites self.new) }
-        ensures refused { IfErr result (LineRefuses number (with_line (parts_of self.old) (LegendLine.Input place))) }
+        ensures refused { IfErr result
+            (LineRefuses number (with_line (parts_of self.old) (LegendLine.Input place))) }
     {
         match add_site(&mut self.taken, place.site) {
             Ok(true) => self.inputs.push(place).map_err(|_| LegendError::NoMemory),
@@ -78,7 +81,8 @@ impl LegendReading {
 
     fn take_output(&mut self, place: Place) -> Result<(), LegendError>
         requires { KnowsSites self.old }
-        ensures said { OnOk result (with_line (parts_of self.old) (LegendLine.Output place) ≡ Some (parts_of self.new)) }
+        ensures said { OnOk result
+            (with_line (parts_of self.old) (LegendLine.Output place) ≡ Some (parts_of self.new)) }
         ensures sites { OnOk result (KnowsSites self.new) }
         ensures refused { IfErr result (λ f. f ≡ LegendError.NoMemory) }
     {
@@ -87,9 +91,11 @@ impl LegendReading {
 
     fn take_events(&mut self, number: u64, events: u64) -> Result<(), LegendError>
         requires { KnowsSites self.old }
-        ensures said { OnOk result (with_line (parts_of self.old) (LegendLine.Events events) ≡ Some (parts_of self.new)) }
+        ensures said { OnOk result
+            (with_line (parts_of self.old) (LegendLine.Events events) ≡ Some (parts_of self.new)) }
         ensures sites { OnOk result (KnowsSites self.new) }
-        ensures refused { IfErr result (LineRefuses number (with_line (parts_of self.old) (LegendLine.Events events))) }
+        ensures refused { IfErr result
+            (LineRefuses number (with_line (parts_of self.old) (LegendLine.Events events))) }
     {
         if self.events.is_some() {
             return Err(LegendError::BadLegend(number));
@@ -100,8 +106,10 @@ impl LegendReading {
 
     // The legend, where the number of events was told.
     fn finish(self) -> Result<Legend, LegendError>
-        ensures ok { IfOk result (λ l. legend_from self.inputs.items self.outputs.items self.events ≡ Ok l) }
-        ensures refused { IfErr result (LegendRefuses (legend_from self.inputs.items self.outputs.items self.events)) }
+        ensures ok { IfOk result (λ l.
+            legend_from self.inputs.items self.outputs.items self.events ≡ Ok l) }
+        ensures refused { IfErr result
+            (LegendRefuses (legend_from self.inputs.items self.outputs.items self.events)) }
     {
         match self.events {
             Some(events) => Ok(Legend {
