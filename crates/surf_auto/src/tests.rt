@@ -52,6 +52,7 @@ fn turns_a_row_of_three(rt: HostRuntime) -> Result<(), Fail> {
     let cells = vec![in alloc; 1, 1, 1, 0]?;
     let row = Automaton {
         kind: GridKind::Square,
+        wrap: false,
         width: 4,
         height: 1,
         edge: 0,
@@ -93,6 +94,7 @@ fn board(
     }
     Ok(Automaton {
         kind,
+        wrap: false,
         width,
         height,
         edge,
@@ -175,6 +177,7 @@ fn excitable(alloc: Global) -> Result<Automaton<TableLocal>, Fail> {
     let cells = vec![in alloc; 0, 0, 0, 0, 1, 0, 0, 2, 0]?;
     Ok(Automaton {
         kind: GridKind::Square,
+        wrap: false,
         width: 3,
         height: 3,
         edge: 2,

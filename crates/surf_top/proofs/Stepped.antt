@@ -83,6 +83,7 @@ refused_ends : (times : ℕ) (input : List ℕ) (e : SourceError) (old : Option 
 refused_ends times input (sources.BadHeader n) old before is = ap (printed_generation times) (is (λ e. cc))
 refused_ends times input (sources.RuleForm n) old before is = ap (printed_generation times) (is (λ e. cc))
 refused_ends times input (sources.Moore n) old before is = ap (printed_generation times) (is (λ e. cc))
+refused_ends times input (sources.TorusSize n) old before is = ap (printed_generation times) (is (λ e. cc))
 refused_ends times input sources.EmptyGrid old before is = ap (printed_generation times) (is (λ e. cc))
 refused_ends times input (sources.GridTooLarge n) old before is = ap (printed_generation times) (is (λ e. cc))
 refused_ends times input (sources.BadItem n) old before is = ap (printed_generation times) (is (λ e. cc))
@@ -96,6 +97,7 @@ pattern_told : {X : Type 0} (r : Result X SourceError) (e : SourceError) → rle
 pattern_told r (sources.BadHeader n) h some = h
 pattern_told r (sources.RuleForm n) h some = h
 pattern_told r (sources.Moore n) h some = h
+pattern_told r (sources.TorusSize n) h some = h
 pattern_told r sources.EmptyGrid h some = h
 pattern_told r (sources.GridTooLarge n) h some = h
 pattern_told r (sources.BadItem n) h some = h
@@ -109,6 +111,7 @@ table_told : {X : Type 0} (r : Result X SourceError) (e : SourceError) → table
 table_told r (sources.BadHeader n) h some = absurd h
 table_told r (sources.RuleForm n) h some = absurd h
 table_told r (sources.Moore n) h some = absurd h
+table_told r (sources.TorusSize n) h some = absurd h
 table_told r sources.EmptyGrid h some = h
 table_told r (sources.GridTooLarge n) h some = h
 table_told r (sources.BadItem n) h some = absurd h

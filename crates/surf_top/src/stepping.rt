@@ -1,7 +1,7 @@
 // The command `step`.
 ghost use Rattle.std.specs.Prelude.{◌≡◌, ◌≤◌, ◌<◌, ◌*◌, ◌++◌, ◌∷◌, ℕ, List, [], true, false, Ok, IfOk, OnOk, length, map, slice_index, take, drop};
 ghost use Rattle.std.specs.Fmt.{decimal};
-ghost use Rattle.surf_auto.specs.Sync.{plain, universe};
+ghost use Rattle.surf_auto.specs.Sync.{box_of, universe};
 ghost use Rattle.surf_auto.specs.Lines.{is_table};
 ghost use Rattle.surf_text.specs.Bytes.{ended, rows_of, spaced};
 ghost use Rattle.surf_top.specs.Answers.{IsQuiet};
@@ -102,7 +102,7 @@ fn show<L: Local + Drop, K: Sink>(
     times: u32,
     out: &mut K,
 ) -> Status
-    ensures ends { let U = universe (plain automaton.kind automaton.width automaton.height) (L.rule automaton.local) automaton.edge automaton.cells.items in
+    ensures ends { let U = universe (box_of automaton.kind automaton.wrap automaton.width automaton.height) (L.rule automaton.local) automaton.edge automaton.cells.items in
         (input : List ℕ) → source_of 0 input ≡ Ok U → EndsJob (Step times) input (K.written out.old) (K.written out.new) (K.faults out.old) (K.faults out.new) result }
     ensures quiet { IsQuiet result → out.new ≡ out.old }
 {
