@@ -3,7 +3,7 @@ ghost use Rattle.std.specs.Prelude.{◌≡◌};
 ghost use Rattle.surf_text.specs.Bytes.{tokens_of};
 ghost use Rattle.surf_auto.specs.Lines.{told, is_comment, is_table};
 
-use surf_text::{first_line, next_token};
+use surf_text::{Lines, next_token};
 
 fn is_comment_token(token: &[u8]) -> bool
     ensures { result ≡ is_comment token.now }
@@ -27,13 +27,11 @@ fn line_tells(line: &[u8]) -> Option<bool>
 pub fn is_table(bytes: &[u8]) -> bool
     ensures { result ≡ is_table bytes.now }
 {
-    let mut rest = bytes;
-    while !rest.is_empty() {
-        let (line, more) = first_line(rest);
+    let mut lines = Lines::new(bytes, 0);
+    while let Some(line) = lines.next() {
         if let Some(is_told) = line_tells(line) {
             return is_told;
         }
-        rest = more;
     }
     false
 }

@@ -1,6 +1,6 @@
 // Many short texts to a sink, sent in long pieces.
 ghost use Rattle.std.specs.Prelude.{◌≡◌, [], ◌++◌, ◌+◌, ◌≤◌, length, OnOk, OnErr};
-ghost use Rattle.surf_base.specs.Emits.{Emits};
+ghost use Rattle.surf_base.specs.Emits.{Emits, outlet};
 
 use crate::{Sink, WriteFault, write_all};
 use std::marker::Model;
@@ -38,16 +38,12 @@ impl Outbox {
 
     /// Sends what is held. After a fault a front of it was sent.
     pub fn flush<K: Sink>(&mut self, sink: &mut K) -> Result<(), WriteFault>
-        ensures emits { Emits (K.written sink.old) (K.written sink.new) self.old self.new (K.faults sink.old) (K.faults sink.new) [] result }
+        ensures emits { Emits (outlet (K.written sink.old) self.old (K.faults sink.old)) (outlet (K.written sink.new) self.new (K.faults sink.new)) [] result }
         ensures empty { OnOk result (self.new ≡ []) }
     {
-        match write_all(sink, &self.bytes[..self.len]) {
-            Ok(()) => {
-                self.len = 0;
-                Ok(())
-            }
-            Err(fault) => Err(fault),
-        }
+        write_all(sink, &self.bytes[..self.len])?;
+        self.len = 0;
+        Ok(())
     }
 
     // Takes a text that fits.
@@ -62,22 +58,20 @@ impl Outbox {
 
     /// Takes a text, and sends what is held before it where it doesn't fit.
     pub fn put<K: Sink>(&mut self, sink: &mut K, text: &[u8]) -> Result<(), WriteFault>
-        ensures { Emits (K.written sink.old) (K.written sink.new) self.old self.new (K.faults sink.old) (K.faults sink.new) text.now result }
+        ensures { Emits (outlet (K.written sink.old) self.old (K.faults sink.old)) (outlet (K.written sink.new) self.new (K.faults sink.new)) text.now result }
     {
         if text.len() <= ROOM - self.len {
             self.hold(text);
             return Ok(());
         }
-        match self.flush(sink) {
-            Ok(()) => self.put_large(sink, text),
-            Err(fault) => Err(fault),
-        }
+        self.flush(sink)?;
+        self.put_large(sink, text)
     }
 
     // Takes a text where nothing is held.
     fn put_large<K: Sink>(&mut self, sink: &mut K, text: &[u8]) -> Result<(), WriteFault>
         requires { self.old ≡ [] }
-        ensures { Emits (K.written sink.old) (K.written sink.new) self.old self.new (K.faults sink.old) (K.faults sink.new) text.now result }
+        ensures { Emits (outlet (K.written sink.old) self.old (K.faults sink.old)) (outlet (K.written sink.new) self.new (K.faults sink.new)) text.now result }
     {
         if text.len() <= ROOM {
             self.hold(text);

@@ -1,4 +1,4 @@
-ghost use Rattle.std.specs.Prelude.{◌≡◌, ◌<◌, ◌+◌, ◌++◌, IsTrue, ◌↔◌, length};
+ghost use Rattle.std.specs.Prelude.{◌≡◌, ◌<◌, ◌+◌, ◌++◌, [], IsTrue, ◌↔◌, length};
 ghost use Rattle.std.specs.Option.{option_to_list};
 ghost use Rattle.surf_lattice.specs.Grids.{Grid, IsGrid, IsInside, Adjacent, degree, neighbour, neighbours, colours, colour, is_coloured};
 
@@ -50,12 +50,15 @@ pub trait Lattice {
         false
     }
 
-    /// The neighbours that exist, in the order of directions.
+    /// The neighbours that exist, in the order of directions. A site outside has none.
     fn neighbours(&self, alloc: Global, site: Site) -> SmallVec<Site, 6, Global>
-        requires { IsInside (grid self.now) site }
-        ensures { result.items ≡ neighbours (grid self.now) site }
+        ensures inside { IsInside (grid self.now) site → result.items ≡ neighbours (grid self.now) site }
+        ensures outside { (IsInside (grid self.now) site → ⊥) → result.items ≡ [] }
     {
         let mut found = SmallVec::new(alloc);
+        if site.x >= self.width() || site.y >= self.height() {
+            return found;
+        }
         for direction in 0..self.degree() {
             push_some(&mut found, self.neighbour(site, direction));
         }
@@ -69,9 +72,8 @@ pub trait Lattice {
         self.degree() + 1
     }
 
-    /// The colour of a site, below the number of colours.
+    /// The colour of a site, inside or not, below the number of colours.
     fn colour(&self, site: Site) -> u32
-        requires { IsInside (grid self.now) site }
         ensures { result ≡ colour (grid self.now) site }
     {
         let sum = u64::from(site.x) + 2 * u64::from(site.y);

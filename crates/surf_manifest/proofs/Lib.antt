@@ -11,3 +11,4 @@ pub mod ReadingLemmas
 pub mod Counts
 pub mod Runs
 pub mod Manifests
+pub mod NameLemmas

@@ -1,5 +1,5 @@
 -- Rows of names, token by token.
-use Rattle.std.proofs.Common.{ℕ, ◌≡◌, ◌+◌, ◌≤◌, List, [], ◌∷◌, length, map, refl, sym, ◌∙◌, arith, true, false, ◌&&◌, Some, None, Result, Ok, Err, append-nil}
+use Rattle.std.proofs.Common.{ℕ, ◌≡◌, ◌+◌, ◌-◌, ◌≤◌, List, [], ◌∷◌, length, map, refl, sym, ◌∙◌, arith, true, false, ◌&&◌, Some, None, Result, Ok, Err, append-nil}
 use Rattle.std.specs.List.{list_all}
 use Rattle.std.proofs.lemmas.List.{length-map, take_all}
 use Rattle.surf_rules.specs.Names.{text_of}
@@ -10,6 +10,7 @@ use Rattle.surf_manifest.specs.Answers.{Refuses}
 use Rattle.surf_manifest.specs.Drafts.{held_by, IsDraft}
 use Rattle.surf_manifest.specs.Grammar.{row_fault}
 use Rattle.surf_manifest.specs.Item.{Item, is_name, row_of}
+use Rattle.surf_manifest.proofs.LimitLemmas.{take_nil}
 use Rattle.surf_manifest.specs.Limits.{Held, with_names, with_row, parts_held, item_step}
 
 -- a refusal that goes on
@@ -35,7 +36,7 @@ no_names d h =
     let t = map (text_of d.names) d.start.items in
     let few : length t ≤ 33554432 = omega (arith, length-map d.start.items (text_of d.names), h.few_sites) in
     let zero_more : d.site_count + 0 ≡ d.site_count = omega arith in
-    rw (append-nil (map (text_of d.names) d.start.items), take_all 33554432 (map (text_of d.names) d.start.items) few, zero_more) refl
+    rw (append-nil (map (text_of d.names) d.start.items), take_all 33554432 (map (text_of d.names) d.start.items) few, zero_more, take_nil {X = List ℕ} (33554432 - length t) [] refl) refl
 
 pub bad_row : (n : ℕ) (all : List (List ℕ)) (t : List ℕ) (ts : List (List ℕ)) → (is_name t && list_all is_name ts) ≡ list_all is_name all → is_name t ≡ false → row_of n all ≡ Err (BadLine n)
 bad_row n all t ts same bad =

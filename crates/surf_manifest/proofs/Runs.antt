@@ -4,7 +4,7 @@ use Rattle.surf_manifest.specs.declared.error.ManifestError.{ManifestError}
 use Rattle.surf_manifest.specs.Answers.{Refuses}
 use Rattle.surf_text.specs.Bytes.{lines_of}
 use Rattle.surf_manifest.specs.Grammar.{ManifestText, unless_fault, line_fault, manifest_of}
-use Rattle.surf_manifest.specs.Limits.{Reached, known_by, after_line, line_step, finished, read_on, at_start}
+use Rattle.surf_manifest.specs.Limits.{Reached, known_by, after_line, after_lines, line_step, finished, read_on, at_start}
 use Rattle.surf_manifest.specs.Line.{Line, line_of}
 use Rattle.surf_manifest.specs.Readings.{IsCounted, IsHeldWithin}
 use Rattle.surf_manifest.proofs.Counts.{counted_line}
@@ -31,6 +31,22 @@ stops s f bytes line rest is h =
 
 pub begins : (s : Reached) (bytes : List ℕ) → s ≡ at_start → manifest_of bytes ≡ read_on s (map line_of (lines_of bytes))
 begins s bytes is = sym (reads_on bytes) ∙ ap (λ v. read_on v (map line_of (lines_of bytes))) (sym is)
+
+after_went : (o : Option ManifestError) (n d : Reached) (ls : List Line) → unless_fault o (Ok n) ≡ Ok d → after_lines n ls ≡ after_lines d ls
+after_went None n d ls h = let e : n ≡ d = cc in ap (λ s. after_lines s ls) e
+after_went (Some f) n d ls h = cc
+
+pub after_goes_on : (s d : Reached) (bytes line rest : List ℕ) → lines_of bytes ≡ line ∷ lines_of rest → line_step s (line_of line) ≡ Ok d
+    → after_lines s (map line_of (lines_of bytes)) ≡ after_lines d (map line_of (lines_of rest))
+after_goes_on s d bytes line rest is h =
+    ap (λ v. after_lines s (map line_of v)) is ∙ after_went (line_fault (known_by s) (line_of line)) (after_line s (line_of line)) d (map line_of (lines_of rest)) h
+
+pub after_begins : (s : Reached) (bytes : List ℕ) → s ≡ at_start → after_lines at_start (map line_of (lines_of bytes)) ≡ after_lines s (map line_of (lines_of bytes))
+after_begins s bytes is = ap (λ v. after_lines v (map line_of (lines_of bytes))) (sym is)
+
+pub after_ends : (s : Reached) (rest : List ℕ) → length rest ≡ 0 → after_lines s (map line_of (lines_of rest)) ≡ s
+after_ends s [] is = refl
+after_ends s (b ∷ bs) is = absurd (omega (arith, is))
 
 pub ends : (s : Reached) (rest : List ℕ) → length rest ≡ 0 → read_on s (map line_of (lines_of rest)) ≡ finished s
 ends s [] is = refl

@@ -39,6 +39,7 @@ held_by d = record {
   start = map (text_of d.names) d.start.items;
   site_count = d.site_count;
   colours = d.colours.items;
+  names = d.names;
 }
 
 -- the texts are names, the numbers are in range, and rules, sites and names within the limits

@@ -12,3 +12,4 @@ pub mod Said
 pub mod Drafts
 pub mod Readings
 pub mod Manifests
+pub mod Naming

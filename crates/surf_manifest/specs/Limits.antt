@@ -1,5 +1,5 @@
 -- What a reader keeps of the lines so far: rules and sites within the limits, and the numbers of all of them.
-use Rattle.std.specs.Prelude.{ℕ, ◌+◌, Bool, false, not, ◌&&◌, ◌||◌, ◌==◌, nat_lt, List, [], ◌∷◌, ◌++◌, length, take, Option, Some, None, is_some, Result, Ok, Err, if◌then◌else◌}
+use Rattle.std.specs.Prelude.{ℕ, ◌+◌, ◌-◌, Bool, false, not, ◌&&◌, ◌||◌, ◌==◌, nat_lt, List, [], ◌∷◌, ◌++◌, length, take, Option, Some, None, is_some, Result, Ok, Err, if◌then◌else◌}
 use Rattle.surf_lattice.specs.declared.site.GridKind.{GridKind}
 use Rattle.surf_lattice.specs.declared.site.GridKind.TheVariants.{Square}
 use Rattle.surf_world.specs.Systems as systems
@@ -11,6 +11,7 @@ use Rattle.surf_manifest.specs.declared.line.BlockKind.{BlockKind}
 use Rattle.surf_manifest.specs.declared.line.BlockKind.TheVariants.{Rules, State, Colormap}
 use Rattle.surf_manifest.specs.Line.{is_block, Line, Skipped, Opens, Closes, Includes, Unknown, Content}
 use Rattle.surf_manifest.specs.Item.{Item, Geometry, Wrap, Kept, Rule, Row, Colour, item_of}
+use Rattle.surf_manifest.specs.Naming.{rule_names, with_texts}
 use Rattle.surf_manifest.specs.Grammar.{ManifestText, Parts, Known, item_fault, line_fault, manifest_from, unless_fault}
 
 pub record Held : Type 0 where
@@ -24,10 +25,11 @@ pub record Held : Type 0 where
   pub start : List (List ℕ)
   pub site_count : ℕ
   pub colours : List (List ℕ)
+  pub names : List (List ℕ)
 
--- what is held of these parts
-abbrev pub held_of : Parts → Held
-held_of p = record {
+-- what is held of these parts, with these names
+abbrev pub held_of : List (List ℕ) → Parts → Held
+held_of names p = record {
   kind = p.kind;
   wrap = p.wrap;
   options = p.options;
@@ -38,14 +40,23 @@ held_of p = record {
   start = take 33554432 p.start;
   site_count = length p.start;
   colours = p.colours;
+  names = names;
 }
 
 abbrev pub with_rule : Held → systems.Rule (List ℕ) → Held
-with_rule h r = record h { rules = take 1048576 (h.rules ++ r ∷ []); rule_count = h.rule_count + 1 }
+with_rule h r = record h {
+  rules = take 1048576 (h.rules ++ r ∷ []);
+  rule_count = h.rule_count + 1;
+  names = if nat_lt (length h.rules) 1048576 then with_texts h.names (rule_names r) else h.names;
+}
 
 -- further sites in the row that is read
 abbrev pub with_names : Held → List (List ℕ) → Held
-with_names h names = record h { start = take 33554432 (h.start ++ names); site_count = h.site_count + length names }
+with_names h names = record h {
+  start = take 33554432 (h.start ++ names);
+  site_count = h.site_count + length names;
+  names = with_texts h.names (take (33554432 - length h.start) names);
+}
 
 -- the row of so many names ends
 abbrev pub with_row : Held → ℕ → Held
@@ -73,15 +84,15 @@ pub record Reached : Type 0 where
   pub has_colours : Bool
   pub held : Held
 
-abbrev pub reached : Known → Reached
-reached c = record {
+abbrev pub reached : List (List ℕ) → Known → Reached
+reached names c = record {
   number = c.number;
   block = c.block;
   opened = c.opened;
   has_rules = c.has_rules;
   has_state = c.has_state;
   has_colours = c.has_colours;
-  held = held_of c.parts;
+  held = held_of names c.parts;
 }
 
 abbrev pub parts_held : Held → Parts
@@ -128,6 +139,11 @@ after_line s Includes = counted s
 after_line s Unknown = counted s
 after_line s (Content t) = counted (record s { held = holding_result s.held (item_of s.number s.block t) })
 
+-- after all of these lines
+abbrev pub after_lines : Reached → List Line → Reached
+after_lines s [] = s
+after_lines s (l ∷ ls) = after_lines (after_line s l) ls
+
 -- the step of one line
 abbrev pub line_step : Reached → Line → Result Reached ManifestError
 line_step s l = unless_fault (line_fault (known_by s) l) (Ok (after_line s l))
@@ -172,6 +188,7 @@ at_start = record {
     start = [];
     site_count = 0;
     colours = [];
+    names = [];
   };
 }
 

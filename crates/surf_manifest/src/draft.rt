@@ -117,15 +117,12 @@ impl Draft {
         ensures draft { IfOk result (λ _. IsDraft self.new) }
         ensures step { MatchResult result (λ _. item_step number (held_by self.old) (option_of number line.now) ≡ Ok (held_by self.new)) (λ f. Refuses (item_step number (held_by self.old) (option_of number line.now)) f) }
     {
-        match option_line(number, line) {
-            Ok(Setting::Geometry(kind)) => self.kind = kind,
-            Ok(Setting::Wrap(wrap)) => self.wrap = wrap,
-            Ok(Setting::Kept(key, value)) => {
-                return self
-                    .keep(alloc, key, value)
-                    .map_err(|_| ManifestError::NoMemory);
-            }
-            Err(fault) => return Err(fault),
+        match option_line(number, line)? {
+            Setting::Geometry(kind) => self.kind = kind,
+            Setting::Wrap(wrap) => self.wrap = wrap,
+            Setting::Kept(key, value) => self
+                .keep(alloc, key, value)
+                .map_err(|_| ManifestError::NoMemory)?,
         }
         Ok(())
     }
@@ -137,10 +134,8 @@ impl Draft {
         ensures draft { IfOk result (λ _. IsDraft self.new) }
         ensures step { MatchResult result (λ _. item_step number (held_by self.old) (rule_line_of number line.now) ≡ Ok (held_by self.new)) (λ f. Refuses (item_step number (held_by self.old) (rule_line_of number line.now)) f) }
     {
-        match rule_line(number, line) {
-            Ok(rule) => self.add_rule(&rule).map_err(|_| ManifestError::NoMemory),
-            Err(fault) => Err(fault),
-        }
+        let rule = rule_line(number, line)?;
+        self.add_rule(&rule).map_err(|_| ManifestError::NoMemory)
     }
 
     /// Adds what the content line `number` says in its block. After a refusal the draft is of no use.

@@ -1,8 +1,9 @@
 // Rules over the numbers of their names.
 ghost use Rattle.std.specs.List.{list_all};
-ghost use Rattle.std.specs.Prelude.{◌&&◌, ◌-◌, ◌<◌, ◌≡◌, ◌^◌, IfOk, Some, length, slice_get, true};
+ghost use Rattle.std.specs.Prelude.{◌&&◌, ◌-◌, ◌<◌, ◌≡◌, ◌^◌, ◌∷◌, [], IfOk, Some, length, slice_get, true};
 ghost use Rattle.surf_manifest.specs.Drafts.{IsGrown, named_rule};
 ghost use Rattle.surf_manifest.specs.Item.{is_name};
+ghost use Rattle.surf_manifest.specs.Naming.{rule_names, with_texts};
 ghost use Rattle.surf_manifest.specs.Said.{rule_of_line};
 ghost use Rattle.surf_manifest.specs.WellFormed.{is_rule};
 ghost use Rattle.surf_world.specs.Renamings.{RuleBelow};
@@ -19,6 +20,7 @@ fn intern_two(names: &mut Names, a: &[u8], b: &[u8]) -> Result<(u32, u32), NoMem
     ensures texts { IfOk result (λ _. list_all is_name names.new ≡ true) }
     ensures first { IfOk result (λ p. slice_get names.new p.0 ≡ Some a.now) }
     ensures second { IfOk result (λ p. slice_get names.new p.1 ≡ Some b.now) }
+    ensures named { IfOk result (λ _. names.new ≡ with_texts names.old (a.now ∷ b.now ∷ [])) }
     ensures grown { IfOk result (λ _. IsGrown 2 names.old names.new) }
 {
     let first = names.intern(a)?;
@@ -33,6 +35,7 @@ pub fn numbered_rule(names: &mut Names, line: &RuleLine<'_>) -> Result<Rule, NoM
     requires texts { list_all is_name names.old ≡ true }
     ensures texts { IfOk result (λ _. list_all is_name names.new ≡ true) }
     ensures rule { IfOk result (λ r. named_rule names.new r ≡ rule_of_line line.now) }
+    ensures named { IfOk result (λ _. names.new ≡ with_texts names.old (rule_names (rule_of_line line.now))) }
     ensures below { IfOk result (λ r. RuleBelow (length names.new) (rule_of r)) }
     ensures grown { IfOk result (λ _. IsGrown 4 names.old names.new) }
 {

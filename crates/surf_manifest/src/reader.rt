@@ -1,16 +1,19 @@
 // The loop over the lines of a text.
-ghost use Rattle.std.specs.Prelude.{◌≡◌, ◌≤◌, IfErr, IfOk, Ok, length};
+ghost use Rattle.std.specs.Prelude.{◌≡◌, ◌≤◌, IfErr, IfOk, Ok, length, map};
+ghost use Rattle.surf_text.specs.Bytes.{lines_of};
 ghost use Rattle.surf_manifest.specs.Answers.{Refuses};
 ghost use Rattle.surf_manifest.specs.Drafts.{IsDraft};
 ghost use Rattle.surf_manifest.specs.Grammar.{manifest_of};
-ghost use Rattle.surf_manifest.specs.Limits.{finished};
+ghost use Rattle.surf_manifest.specs.Limits.{after_lines, at_start, finished};
+ghost use Rattle.surf_manifest.specs.Line.{line_of};
+ghost use Rattle.surf_manifest.specs.Naming.{names_in};
 ghost use Rattle.surf_manifest.specs.Readings.{IsCounted, reached_by};
 
 use crate::error::ManifestError;
 use crate::manifest::Manifest;
 use crate::reading::Reading;
 use std::alloc::Global;
-use surf_text::first_line;
+use surf_text::Lines;
 
 // Reads all lines, up to the first fault.
 fn read_lines(alloc: Global, text: &[u8]) -> Result<Reading, ManifestError>
@@ -18,16 +21,13 @@ fn read_lines(alloc: Global, text: &[u8]) -> Result<Reading, ManifestError>
     ensures draft { IfOk result (λ r. IsDraft r.draft) }
     ensures counted { IfOk result (λ r. IsCounted 2147483648 (reached_by r)) }
     ensures read { IfOk result (λ r. manifest_of text.now ≡ finished (reached_by r)) }
+    ensures after { IfOk result (λ r. after_lines at_start (map line_of (lines_of text.now)) ≡ reached_by r) }
     ensures refused { IfErr result (λ f. Refuses (manifest_of text.now) f) }
 {
     let mut reading = Reading::new(alloc);
-    let mut rest = text;
-    while !rest.is_empty() {
-        let (line, after) = first_line(rest);
-        match reading.read_line(alloc, line) {
-            Ok(()) => rest = after,
-            Err(fault) => return Err(fault),
-        }
+    let mut lines = Lines::new(text, 0);
+    while let Some(line) = lines.next() {
+        reading.read_line(alloc, line)?;
     }
     Ok(reading)
 }
@@ -38,11 +38,9 @@ fn read_lines(alloc: Global, text: &[u8]) -> Result<Reading, ManifestError>
 pub fn read_manifest(alloc: Global, bytes: &[u8]) -> Result<Manifest, ManifestError>
     requires { length bytes.now ≤ 2147483648 }
     ensures ok { IfOk result (λ m. manifest_of bytes.now ≡ Ok m.text) }
+    ensures named { IfOk result (λ m. m.names ≡ names_in bytes.now) }
     ensures names { IfOk result (λ m. length m.names ≤ 37748736) }
     ensures refused { IfErr result (λ f. Refuses (manifest_of bytes.now) f) }
 {
-    match read_lines(alloc, bytes) {
-        Ok(reading) => reading.finish(),
-        Err(fault) => Err(fault),
-    }
+    read_lines(alloc, bytes)?.finish()
 }

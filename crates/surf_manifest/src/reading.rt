@@ -124,13 +124,9 @@ impl Reading {
         ensures draft { IfOk result (λ _. IsDraft self.new.draft) }
         ensures step { MatchResult result (λ _. line_step (reached_by self.old) (line_of line.now) ≡ Ok (reached_by self.new)) (λ f. Refuses (line_step (reached_by self.old) (line_of line.now)) f) }
     {
-        match self.take(alloc, kind_of(line)) {
-            Ok(()) => {
-                self.number += 1;
-                Ok(())
-            }
-            Err(fault) => Err(fault),
-        }
+        self.take(alloc, kind_of(line))?;
+        self.number += 1;
+        Ok(())
     }
 
     // The fault of a text whose lines have none.
@@ -169,6 +165,7 @@ impl Reading {
         requires sides { (self.draft.width < 2 ^ 32) × (self.draft.height < 2 ^ 32) }
         ensures ok { IfOk result (λ m. finished (reached_by self) ≡ Ok m.text) }
         ensures names { IfOk result (λ m. length m.names ≤ 37748736) }
+        ensures named { IfOk result (λ m. m.names ≡ (reached_by self).held.names) }
         ensures refused { IfErr result (λ f. finished (reached_by self) ≡ Err f) }
     {
         if let Some(fault) = self.end_fault() {

@@ -47,13 +47,9 @@ impl Draft {
             if !is_name_token(token) {
                 return Err(ManifestError::BadLine(number));
             }
-            match self.add_site(token) {
-                Ok(()) => {
-                    count += 1;
-                    rest = after;
-                }
-                Err(_) => return Err(ManifestError::NoMemory),
-            }
+            self.add_site(token).map_err(|_| ManifestError::NoMemory)?;
+            count += 1;
+            rest = after;
         }
         Ok(count)
     }
@@ -79,10 +75,7 @@ impl Draft {
         ensures draft { IfOk result (λ _. IsDraft self.new) }
         ensures step { MatchResult result (λ _. item_step number (held_by self.old) (row_of number (tokens_of text.now)) ≡ Ok (held_by self.new)) (λ f. Refuses (item_step number (held_by self.old) (row_of number (tokens_of text.now))) f) }
     {
-        let count = match self.add_names(number, text) {
-            Ok(count) => count,
-            Err(fault) => return Err(fault),
-        };
+        let count = self.add_names(number, text)?;
         if self.height != 0 && count != self.width {
             return Err(ManifestError::Ragged(number));
         }

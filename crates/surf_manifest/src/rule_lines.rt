@@ -106,10 +106,7 @@ pub fn rule_line(number: u64, text: &[u8]) -> Result<RuleLine<'_>, ManifestError
     ensures value { MatchResult result (λ r. rule_line_of number text.now ≡ Ok (Rule (rule_of_line r))) (λ f. rule_line_of number text.now ≡ Err f) }
     ensures rule { IfOk result (λ r. is_rule (rule_of_line r) ≡ true) }
 {
-    let (rate, rest) = match rated(number, text) {
-        Ok(found) => found,
-        Err(fault) => return Err(fault),
-    };
+    let (rate, rest) = rated(number, text)?;
     match rule_tokens(rate, rest) {
         Some(line) => Ok(line),
         None => Err(ManifestError::BadRule(number)),

@@ -1,4 +1,4 @@
-ghost use Rattle.std.specs.Prelude.{◌≡◌, ◌<◌, ◌^◌, ◌+◌, ◌-◌, List, ℕ, length, sum, slice_set, min, IfOk};
+ghost use Rattle.std.specs.Prelude.{◌≡◌, ◌<◌, ◌≤◌, ◌^◌, ◌+◌, ◌-◌, List, ℕ, length, sum, slice_set, min, IfOk};
 ghost use Rattle.surf_pick.specs.Finds.{Finds};
 
 use std::alloc::Global;
@@ -26,7 +26,8 @@ pub trait Picker {
         requires place { place < length (weights self.old) }
         requires fits { sum (slice_set (weights self.old) place weight) < 2 ^ 128 }
         ensures list { weights self.new ≡ slice_set (weights self.old) place weight }
-        ensures sets { sets self.new ≡ min (sets self.old + 1) (2 ^ 64 - 1) };
+        ensures sets { sets self.new ≡ min (sets self.old + 1) (2 ^ 64 - 1) }
+        ensures counted { sets self.old ≤ sets self.new };
 
     /// The sum of the weights.
     fn total(&self) -> u128

@@ -6,3 +6,4 @@ pub mod Drawn
 pub mod Told
 pub mod Universes
 pub mod OnGrids
+pub mod HeaderLines

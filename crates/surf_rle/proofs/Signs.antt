@@ -1,8 +1,8 @@
 -- The first sign of a line.
-use Rattle.std.proofs.Common.{ℕ, zero, suc, ◌≡◌, ◌<◌, true, false, List, [], ◌∷◌, length, get_or, take, drop, map, refl, sym, ◌∙◌, ◌+◌, ap, arith, add-one, Option, Some, None}
+use Rattle.std.proofs.Common.{◌^◌, ℕ, zero, suc, ◌≡◌, ◌<◌, true, false, List, [], ◌∷◌, length, get_or, take, drop, map, refl, sym, ◌∙◌, ◌+◌, ap, arith, add-one, Option, Some, None}
 use Rattle.std.proofs.lemmas.Bool.{ne_eqb}
 use Rattle.surf_base.specs.Decimal.{is_digit}
-use Rattle.surf_rle.specs.Headers.{number_of}
+use Rattle.surf_base.specs.Decimal.{decimal_below}
 use Rattle.surf_rle.specs.Items.{pieces_of, if_counted, sign_of, signs_of}
 use Rattle.surf_rle.specs.declared.item.Sign.TheVariants.{Bad}
 
@@ -30,4 +30,4 @@ count_alone (Some (suc n)) = rw (ne_eqb (suc n) 0 (λ e. absurd (omega (arith, e
 -- digits that no letter follows
 pub sign_end : (line : List ℕ) → 0 < length line → ((k : ℕ) → k < length line → is_digit (get_or line k 0) ≡ true) → signs_of line ≡ Bad ∷ []
 sign_end [] lt all = absurd (omega arith)
-sign_end (b ∷ bs) lt all = ap (map sign_of) (piece_end b bs all) ∙ ap (λ s. s ∷ []) (count_alone (number_of (b ∷ bs)))
+sign_end (b ∷ bs) lt all = ap (map sign_of) (piece_end b bs all) ∙ ap (λ s. s ∷ []) (count_alone (decimal_below (2 ^ 32) (b ∷ bs)))

@@ -1,24 +1,17 @@
 -- The header of a pattern: `x = WIDTH, y = HEIGHT`, and after a further comma `rule = RULE`.
-use Rattle.std.specs.Prelude.{ℕ, ◌^◌, nat_lt, bytes_eq, codes, List, Option, Some, None, if◌then◌else◌}
+use Rattle.std.specs.Prelude.{ℕ, ◌^◌, bytes_eq, codes, List, Option, Some, None, if◌then◌else◌}
 use Rattle.std.specs.Option.{option_map}
-use Rattle.surf_base.specs.Decimal.{decimal_of}
+use Rattle.surf_base.specs.Decimal.{decimal_below}
 use Rattle.surf_text.specs.Bytes.{trimmed, before, after}
-
--- the number at most 4,294,967,295 that a text spells
-abbrev pub if_short : Option ℕ → Option ℕ
-if_short None = None
-if_short (Some n) = if nat_lt n (2 ^ 32) then Some n else None
-
-abbrev pub number_of : List ℕ → Option ℕ
-number_of t = if_short (decimal_of t)
 
 -- what a field `key = value` gives to this key; blanks around both are free
 abbrev pub value_in : List ℕ → List ℕ → Option (List ℕ)
 value_in key field = if bytes_eq (trimmed (before 61 field)) key then option_map trimmed (after 61 field) else None
 
+-- the number at most 4,294,967,295 that a text spells
 abbrev pub number_from : Option (List ℕ) → Option ℕ
 number_from None = None
-number_from (Some t) = number_of t
+number_from (Some t) = decimal_below (2 ^ 32) t
 
 abbrev pub number_in : List ℕ → List ℕ → Option ℕ
 number_in key field = number_from (value_in key field)

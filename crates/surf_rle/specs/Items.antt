@@ -1,8 +1,8 @@
 -- The items of a pattern: an optional count with b, o or $, and ! alone.
-use Rattle.std.specs.Prelude.{ℕ, ◌==◌, List, [], ◌∷◌, map, Option, Some, None, if◌then◌else◌}
+use Rattle.std.specs.Prelude.{ℕ, ◌^◌, ◌==◌, List, [], ◌∷◌, map, Option, Some, None, if◌then◌else◌}
 use Rattle.surf_base.specs.Decimal.{is_digit}
 use Rattle.surf_text.specs.Bytes.{is_blank}
-use Rattle.surf_rle.specs.Headers.{number_of}
+use Rattle.surf_base.specs.Decimal.{decimal_below}
 use Rattle.surf_rle.specs.declared.item.Sign.{Sign}
 use Rattle.surf_rle.specs.declared.item.Sign.TheVariants.{Free, Dead, Live, Down, End, Bad}
 
@@ -39,7 +39,7 @@ sign_behind [] b =
     if is_blank b then Free
     else (if b == 33 then End
     else counted 1 b)
-sign_behind (d ∷ ds) b = if_counted (number_of (d ∷ ds)) b
+sign_behind (d ∷ ds) b = if_counted (decimal_below (2 ^ 32) (d ∷ ds)) b
 
 abbrev pub sign_of : Piece → Sign
 sign_of p = sign_behind p.digits p.byte

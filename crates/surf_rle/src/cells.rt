@@ -1,5 +1,5 @@
 // The cells of a pattern.
-ghost use Rattle.std.specs.Prelude.{◌≡◌, ◌+◌, ◌<◌, ◌≤◌, ◌^◌, Err, IfErr, IfOk, None, Ok, Some, length};
+ghost use Rattle.std.specs.Prelude.{◌≡◌, ◌+◌, ◌≤◌, Err, IfErr, IfOk, None, Ok, Some, length};
 ghost use Rattle.surf_rle.specs.Drawings.{IsSheet, rest_of, sheet_grid};
 ghost use Rattle.surf_rle.specs.Patterns.{cells_read, marks_from};
 ghost use Rattle.surf_rle.specs.Rle.{Refuses, box_fault};
@@ -9,7 +9,7 @@ use crate::lines::is_comment_line;
 use crate::sheet::{Pen, Sheet, draw_line};
 use std::alloc::Global;
 use surf_auto::SourceError;
-use surf_text::{first_line, trim};
+use surf_text::{Lines, trim};
 
 /// The most sites of a universe.
 const SITE_LIMIT: u128 = 1_000_000;
@@ -29,49 +29,40 @@ pub fn check_box(sheet: &Sheet) -> Result<(), SourceError>
     Ok(())
 }
 
-// Draws the lines of a text up to the pattern's end, the first of which is the line `number`.
-fn draw_lines(sheet: Sheet, cells: &mut [u32], number: u64, text: &[u8]) -> Result<(), SourceError>
+// Draws the next lines up to the pattern's end.
+fn draw_lines(sheet: Sheet, cells: &mut [u32], lines: &mut Lines<'_>) -> Result<(), SourceError>
     requires sheet { IsSheet sheet cells.old }
-    requires within { length text.now ≤ 2147483648 }
-    requires counted { number + length text.now < 2 ^ 64 }
-    ensures ok { IfOk result (λ _. rest_of sheet (record { row = 0; column = 0 }) cells.old (marks_from number (lines_of text.now)) ≡ Ok cells.new) }
-    ensures refused { IfErr result (λ f. rest_of sheet (record { row = 0; column = 0 }) cells.old (marks_from number (lines_of text.now)) ≡ Err f) }
+    requires within { length lines.old.left ≤ 2147483648 }
+    ensures ok { IfOk result (λ _. rest_of sheet (record { row = 0; column = 0 }) cells.old (marks_from (lines.old.number + 1) (lines_of lines.old.left)) ≡ Ok cells.new) }
+    ensures refused { IfErr result (λ f. rest_of sheet (record { row = 0; column = 0 }) cells.old (marks_from (lines.old.number + 1) (lines_of lines.old.left)) ≡ Err f) }
 {
     let mut pen = Pen { row: 0, column: 0 };
-    let mut rest = text;
-    let mut number = number;
-    while !rest.is_empty() {
-        let (line, after) = first_line(rest);
-        if !is_comment_line(trim(line)) {
-            match draw_line(sheet, pen, cells, number, line)? {
-                Some(next) => pen = next,
-                None => return Ok(()),
-            }
+    while let Some(line) = lines.next() {
+        if is_comment_line(trim(line)) {
+            continue;
         }
-        rest = after;
-        number += 1;
+        match draw_line(sheet, pen, cells, lines.number(), line)? {
+            Some(next) => pen = next,
+            None => return Ok(()),
+        }
     }
     Err(SourceError::Unclosed)
 }
 
-/// The cells of a pattern, whose first line is the line `number`.
+/// The cells of the pattern that the next lines draw.
 pub fn read_cells(
     alloc: Global,
     sheet: Sheet,
-    number: u64,
-    text: &[u8],
+    lines: &mut Lines<'_>,
 ) -> Result<Vec<u32>, SourceError>
     requires sheet { box_fault sheet.margin sheet.width sheet.height ≡ None }
     requires small { sheet.margin ≤ 1000 }
-    requires within { length text.now ≤ 2147483648 }
-    requires counted { number + length text.now < 2 ^ 64 }
-    ensures ok { IfOk result (λ v. cells_read sheet.margin (sheet_grid sheet) sheet.width sheet.height (marks_from number (lines_of text.now)) ≡ Ok v.items) }
-    ensures refused { IfErr result (λ f. Refuses (cells_read sheet.margin (sheet_grid sheet) sheet.width sheet.height (marks_from number (lines_of text.now))) f) }
+    requires within { length lines.old.left ≤ 2147483648 }
+    ensures ok { IfOk result (λ v. cells_read sheet.margin (sheet_grid sheet) sheet.width sheet.height (marks_from (lines.old.number + 1) (lines_of lines.old.left)) ≡ Ok v.items) }
+    ensures refused { IfErr result (λ f. Refuses (cells_read sheet.margin (sheet_grid sheet) sheet.width sheet.height (marks_from (lines.old.number + 1) (lines_of lines.old.left))) f) }
 {
     let sites = sheet.full_width() * sheet.full_height();
     let mut cells = vec![in alloc; 0u32; sites as usize].map_err(|_| SourceError::NoMemory)?;
-    match draw_lines(sheet, &mut cells, number, text) {
-        Ok(()) => Ok(cells),
-        Err(fault) => Err(fault),
-    }
+    draw_lines(sheet, &mut cells, lines)?;
+    Ok(cells)
 }

@@ -2,9 +2,9 @@
 ghost use Rattle.std.specs.Prelude.{◌≡◌, MatchOption, None, Some};
 ghost use Rattle.std.specs.Option.{option_map};
 ghost use Rattle.surf_rle.specs.Said.{header_by};
-ghost use Rattle.surf_rle.specs.Headers.{header_of, number_in, number_of, rule_in, value_in};
+ghost use Rattle.surf_rle.specs.Headers.{header_of, number_in, rule_in, value_in};
 
-use surf_base::read_decimal;
+use surf_base::read_below;
 use surf_text::{cut, trim};
 
 /// The sides of the box, and the text of the rule.
@@ -13,17 +13,6 @@ pub struct Header<'a> {
     pub width: u32,
     pub height: u32,
     pub rule: &'a [u8],
-}
-
-/// The number that a text spells, where it is at most 4,294,967,295.
-pub fn read_number(text: &[u8]) -> Option<u32>
-    ensures { result ≡ number_of text.now }
-{
-    let number = read_decimal(text)?;
-    if number > u64::from(u32::MAX) {
-        return None;
-    }
-    Some(number as u32)
 }
 
 // What a field gives to a key.
@@ -44,7 +33,7 @@ fn number(key: &[u8], field: &[u8]) -> Option<u32>
     ensures { result ≡ number_in key.now field.now }
 {
     match value(key, field) {
-        Some(text) => read_number(text),
+        Some(text) => read_below(1 << 32, text),
         None => None,
     }
 }

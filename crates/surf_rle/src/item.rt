@@ -2,7 +2,7 @@
 ghost use Rattle.std.specs.Prelude.{◌≡◌, ◌<◌, ◌∷◌, [], length};
 ghost use Rattle.surf_rle.specs.Items.{counted, sign_behind, signs_of};
 
-use crate::header::read_number;
+use surf_base::read_below;
 use surf_text::is_blank_byte;
 
 /// What some digits and the byte behind them say.
@@ -50,7 +50,7 @@ fn sign_behind(digits: &[u8], byte: u8) -> Sign
     if digits.is_empty() {
         return sign_alone(byte);
     }
-    match read_number(digits) {
+    match read_below(1 << 32, digits) {
         Some(count) if count > 0 => counted(count, byte),
         _ => Sign::Bad,
     }

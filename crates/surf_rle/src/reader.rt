@@ -1,5 +1,5 @@
 // The reader of patterns.
-ghost use Rattle.std.specs.Prelude.{◌≡◌, ◌+◌, ◌<◌, ◌≤◌, ◌^◌, IfErr, IfOk, Ok, Some, false, length};
+ghost use Rattle.std.specs.Prelude.{◌≡◌, ◌≤◌, IfErr, IfOk, Ok, Some, false, length};
 ghost use Rattle.surf_auto.specs.Counts.{count_rule};
 ghost use Rattle.surf_auto.specs.Lines.{is_table};
 ghost use Rattle.surf_auto.specs.Locals.{rule_count};
@@ -11,30 +11,29 @@ ghost use Rattle.surf_text.specs.Bytes.{lines_of};
 
 use crate::cells::{check_box, read_cells};
 use crate::header::{Header, read_header};
-use crate::lines::find_header;
+use crate::lines::AboveHeader;
 use crate::rule::{Neighbours, RuleText, counts, read_rule};
 use crate::sheet::Sheet;
 use std::alloc::Global;
 use surf_auto::{Automaton, CountLocal, Local, SourceError};
 use surf_lattice::GridKind;
+use surf_text::Lines;
 
-// The automaton of a box of this rule, whose pattern follows the line `number`.
+// The automaton of a box of this rule, whose pattern the next lines draw.
 fn read_box(
     alloc: Global,
     sheet: Sheet,
     rule: &RuleText<'_>,
-    number: u64,
-    rest: &[u8],
+    lines: &mut Lines<'_>,
 ) -> Result<Automaton<CountLocal>, SourceError>
     requires small { sheet.margin ≤ 1000 }
-    requires within { length rest.now ≤ 2147483648 }
-    requires counted { number + 1 + length rest.now < 2 ^ 64 }
-    ensures ok { IfOk result (λ a. box_read sheet.margin number sheet.kind (counts_on sheet.kind (rule_by rule.now)) sheet.width sheet.height (lines_of rest.now) ≡ Ok (universe (box_of a.kind a.wrap a.width a.height) (count_rule a.local) a.edge a.cells.items)) }
-    ensures refused { IfErr result (λ f. Refuses (box_read sheet.margin number sheet.kind (counts_on sheet.kind (rule_by rule.now)) sheet.width sheet.height (lines_of rest.now)) f) }
+    requires within { length lines.old.left ≤ 2147483648 }
+    ensures ok { IfOk result (λ a. box_read sheet.margin lines.old.number sheet.kind (counts_on sheet.kind (rule_by rule.now)) sheet.width sheet.height (lines_of lines.old.left) ≡ Ok (universe (box_of a.kind a.wrap a.width a.height) (count_rule a.local) a.edge a.cells.items)) }
+    ensures refused { IfErr result (λ f. Refuses (box_read sheet.margin lines.old.number sheet.kind (counts_on sheet.kind (rule_by rule.now)) sheet.width sheet.height (lines_of lines.old.left)) f) }
     ensures few { IfOk result (λ a. rule_count (count_rule a.local) ≤ 1048576) }
 {
     check_box(&sheet)?;
-    let cells = read_cells(alloc, sheet, number + 1, rest)?;
+    let cells = read_cells(alloc, sheet, lines)?;
     let degree = match sheet.kind {
         GridKind::Square => 4,
         GridKind::Hex => 6,
@@ -53,28 +52,26 @@ fn read_box(
     })
 }
 
-// The automaton of a header on the line `number`, whose pattern follows that line.
+// The automaton of a header on the last line, whose pattern the next lines draw.
 fn read_pattern(
     alloc: Global,
     header: &Header<'_>,
     margin: u32,
-    number: u64,
-    rest: &[u8],
+    lines: &mut Lines<'_>,
 ) -> Result<Automaton<CountLocal>, SourceError>
     requires small { margin ≤ 1000 }
-    requires within { length rest.now ≤ 2147483648 }
-    requires counted { number + 1 + length rest.now < 2 ^ 64 }
-    ensures ok { IfOk result (λ a. if_header margin number (Some (header_by header.now)) (lines_of rest.now) ≡ Ok (universe (box_of a.kind a.wrap a.width a.height) (count_rule a.local) a.edge a.cells.items)) }
-    ensures refused { IfErr result (λ f. Refuses (if_header margin number (Some (header_by header.now)) (lines_of rest.now)) f) }
+    requires within { length lines.old.left ≤ 2147483648 }
+    ensures ok { IfOk result (λ a. if_header margin lines.old.number (Some (header_by header.now)) (lines_of lines.old.left) ≡ Ok (universe (box_of a.kind a.wrap a.width a.height) (count_rule a.local) a.edge a.cells.items)) }
+    ensures refused { IfErr result (λ f. Refuses (if_header margin lines.old.number (Some (header_by header.now)) (lines_of lines.old.left)) f) }
     ensures few { IfOk result (λ a. rule_count (count_rule a.local) ≤ 1048576) }
 {
     let Some(rule) = read_rule(header.rule) else {
-        return Err(SourceError::RuleForm(number));
+        return Err(SourceError::RuleForm(lines.number()));
     };
     let kind = match rule.neighbours {
         Neighbours::Four => GridKind::Square,
         Neighbours::Six => GridKind::Hex,
-        Neighbours::Eight => return Err(SourceError::Moore(number)),
+        Neighbours::Eight => return Err(SourceError::Moore(lines.number())),
     };
     let sheet = Sheet {
         kind,
@@ -82,7 +79,7 @@ fn read_pattern(
         height: header.height,
         margin,
     };
-    read_box(alloc, sheet, &rule, number, rest)
+    read_box(alloc, sheet, &rule, lines)
 }
 
 /// The automaton of a pattern in RLE, of at most 2,147,483,648 bytes, with a margin of dead cells on
@@ -101,12 +98,12 @@ pub fn read_rle(
     ensures refused { IfErr result (λ f. Refuses (rle_of margin bytes.now) f) }
     ensures few { IfOk result (λ a. rule_count (count_rule a.local) ≤ 1048576) }
 {
-    let found = match find_header(bytes) {
-        Ok(found) => found,
-        Err(number) => return Err(SourceError::BadHeader(number)),
+    let mut lines = Lines::new(bytes, 0);
+    let Some(line) = lines.next_kept::<AboveHeader>() else {
+        return Err(SourceError::BadHeader(lines.number() + 1));
     };
-    let Some(header) = read_header(found.line) else {
-        return Err(SourceError::BadHeader(found.number));
+    let Some(header) = read_header(line) else {
+        return Err(SourceError::BadHeader(lines.number()));
     };
-    read_pattern(alloc, &header, margin, found.number, found.rest)
+    read_pattern(alloc, &header, margin, &mut lines)
 }

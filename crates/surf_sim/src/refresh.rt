@@ -36,6 +36,7 @@ pub(crate) fn refresh_event<L: Lattice, P: Picker>(world: &World<L>, picker: &mu
     ensures weights { AreWeights world.now.surface.grid (P.weights picker.new) }
     ensures once { P.sets picker.new ≤ P.sets picker.old + length (touched world.now.surface.grid event.now) }
     ensures sets { P.sets picker.new ≤ P.sets picker.old + 14 }
+    ensures counted { P.sets picker.old ≤ P.sets picker.new }
 {
     refresh_around(world, picker, event.first);
     refresh_second(world, picker, event.first, event.second);
@@ -48,6 +49,7 @@ fn refresh_around<L: Lattice, P: Picker>(world: &World<L>, picker: &mut P, site:
     ensures weights { AreWeights world.now.surface.grid (P.weights picker.new) }
     ensures right { AreRight world.now.surface world.now.names (around world.now.surface.grid site) (P.weights picker.new) }
     ensures sets { P.sets picker.new ≤ P.sets picker.old + length (around world.now.surface.grid site) }
+    ensures counted { P.sets picker.old ≤ P.sets picker.new }
 {
     refresh(world, picker, site);
     for direction in 0..world.grid().degree() {
@@ -61,6 +63,7 @@ fn refresh_some<L: Lattice, P: Picker>(world: &World<L>, picker: &mut P, site: O
     ensures set { P.weights picker.new ≡ refreshed world.now.surface world.now.names (option_to_list site) (P.weights picker.old) }
     ensures weights { AreWeights world.now.surface.grid (P.weights picker.new) }
     ensures sets { P.sets picker.new ≤ P.sets picker.old + length (option_to_list site) }
+    ensures counted { P.sets picker.old ≤ P.sets picker.new }
 {
     if let Some(site) = site {
         refresh(world, picker, site);
@@ -73,6 +76,7 @@ pub(crate) fn refresh<L: Lattice, P: Picker>(world: &World<L>, picker: &mut P, s
     ensures set { P.weights picker.new ≡ slice_set (P.weights picker.old) (place world.now.surface.grid site) (weight_of world.now.surface world.now.names site) }
     ensures weights { AreWeights world.now.surface.grid (P.weights picker.new) }
     ensures sets { P.sets picker.new ≤ P.sets picker.old + 1 }
+    ensures counted { P.sets picker.old ≤ P.sets picker.new }
 {
     picker.set(world.place(site), world.weight_at(site));
 }

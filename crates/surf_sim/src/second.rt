@@ -25,6 +25,7 @@ pub(crate) fn refresh_second<L: Lattice, P: Picker>(
     ensures set { P.weights picker.new ≡ refreshed world.now.surface world.now.names (flat_map (around world.now.surface.grid) (option_to_list second)) (P.weights picker.old) }
     ensures weights { AreWeights world.now.surface.grid (P.weights picker.new) }
     ensures sets { P.sets picker.new ≤ P.sets picker.old + length (filter (is_new world.now.surface.grid first) (flat_map (around world.now.surface.grid) (option_to_list second))) }
+    ensures counted { P.sets picker.old ≤ P.sets picker.new }
 {
     if let Some(second) = second {
         refresh_rest(world, picker, first, second);
@@ -39,6 +40,7 @@ fn refresh_rest<L: Lattice, P: Picker>(world: &World<L>, picker: &mut P, first: 
     ensures set { P.weights picker.new ≡ refreshed world.now.surface world.now.names (around world.now.surface.grid second) (P.weights picker.old) }
     ensures weights { AreWeights world.now.surface.grid (P.weights picker.new) }
     ensures sets { P.sets picker.new ≤ P.sets picker.old + length (filter (is_new world.now.surface.grid first) (around world.now.surface.grid second)) }
+    ensures counted { P.sets picker.old ≤ P.sets picker.new }
 {
     refresh_new(world, picker, first, second);
     for direction in 0..world.grid().degree() {
@@ -65,6 +67,7 @@ fn refresh_new_some<L: Lattice, P: Picker>(
     ensures weights { AreWeights world.now.surface.grid (P.weights picker.new) }
     ensures right { AreRight world.now.surface world.now.names (around world.now.surface.grid first) (P.weights picker.new) }
     ensures sets { P.sets picker.new ≤ P.sets picker.old + length (filter (is_new world.now.surface.grid first) (option_to_list site)) }
+    ensures counted { P.sets picker.old ≤ P.sets picker.new }
 {
     if let Some(site) = site {
         refresh_new(world, picker, first, site);
@@ -80,6 +83,7 @@ fn refresh_new<L: Lattice, P: Picker>(world: &World<L>, picker: &mut P, first: S
     ensures weights { AreWeights world.now.surface.grid (P.weights picker.new) }
     ensures right { AreRight world.now.surface world.now.names (around world.now.surface.grid first) (P.weights picker.new) }
     ensures sets { P.sets picker.new ≤ P.sets picker.old + length (filter (is_new world.now.surface.grid first) (site ∷ [])) }
+    ensures counted { P.sets picker.old ≤ P.sets picker.new }
 {
     if is_new(world.grid(), first, site) {
         refresh(world, picker, site);

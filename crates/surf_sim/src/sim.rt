@@ -73,6 +73,7 @@ impl<L: Lattice, P: Picker> Sim<L, P> {
         ensures stuck { IfNone result (Stuck self.old.placed.surface self.old.placed.names) }
         ensures once { IfSome result (λ e. self.new.sets ≤ self.old.sets + length (touched self.old.placed.surface.grid e)) }
         ensures few { self.new.sets ≤ self.old.sets + 14 }
+        ensures counted { self.old.sets ≤ self.new.sets }
     {
         let total = self.picker.total();
         if total == 0 {

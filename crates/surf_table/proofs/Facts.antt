@@ -2,10 +2,10 @@
 use Rattle.std.proofs.Common.{ℕ, suc, zero, ◌≡◌, ◌<◌, ◌≤◌, Bool, true, false, List, [], ◌∷◌, length, Option, Some, None, Result, Ok, Err, if◌then◌else◌, ◌==◌, ◌&&◌, nat_lt, nat_le, bytes_eq, codes, refl, sym, ◌∙◌, ap, subst, arith}
 use Rattle.std.specs.List.{AllByRecursion}
 use Rattle.std.proofs.lemmas.Bool.{and_parts, leb-true, ltb-false, ltb-true}
-use Rattle.surf_base.specs.Decimal.{decimal_of}
 use Rattle.surf_auto.specs.Tables.{greatest}
 use Rattle.surf_auto.specs.declared.error.SourceError.{SourceError}
-use Rattle.surf_table.specs.TableLines.{Line, that_passes, number_below, number_onto, numbers, numbers_line, number_line, version_line, degree_line, states_line, edge_line, weights_line, if_own, next_line}
+use Rattle.surf_base.specs.Decimal.{decimal_below, decimal_of, if_below}
+use Rattle.surf_table.specs.TableLines.{Line, that_passes, number_onto, numbers, numbers_line, number_line, version_line, degree_line, states_line, edge_line, weights_line, if_own, next_line}
 use Rattle.surf_auto.specs.declared.error.SourceError.TheVariants.{TooManyRules}
 use Rattle.surf_auto.specs.Locals.{is_degree}
 use Rattle.surf_table.specs.Parts.{IsHead, IsRow}
@@ -22,8 +22,15 @@ passes p (Some j) k h =
     let e : j ≡ k = cc in
     ap p (sym e) ∙ t.0
 
-is_below : (n : ℕ) (word : List ℕ) (k : ℕ) → number_below n word ≡ Some k → k < n
-is_below n word k h = ltb-true k n (passes (λ j. nat_lt j n) (decimal_of word) k h)
+below_if : (n : ℕ) (o : Option ℕ) (k : ℕ) → if_below n o ≡ Some k → k < n
+below_if n None k h = absurd cc
+below_if n (Some j) k h =
+    let t = if_some (nat_lt j n) (Some j) k h in
+    let e : j ≡ k = cc in
+    ltb-true k n (ap (λ v. nat_lt v n) (sym e) ∙ t.0)
+
+is_below : (n : ℕ) (word : List ℕ) (k : ℕ) → decimal_below n word ≡ Some k → k < n
+is_below n word k h = below_if n (decimal_of word) k h
 
 one_more : (count n : ℕ) (o : Option ℕ) (r : Option (List ℕ)) (ks : List ℕ) → ((k : ℕ) → o ≡ Some k → k < n) → ((js : List ℕ) → r ≡ Some js → IsRow count n js) → number_onto o r ≡ Some ks → IsRow (suc count) n ks
 one_more count n None r ks first more h = absurd cc
@@ -41,7 +48,7 @@ numbers_row zero n [] ks h =
     subst P e (record { whole = refl; below = tt })
 numbers_row zero n (word ∷ words) ks h = absurd cc
 numbers_row (suc count) n [] ks h = absurd cc
-numbers_row (suc count) n (word ∷ words) ks h = one_more count n (number_below n word) (numbers count n words) ks (is_below n word) (numbers_row count n words) h
+numbers_row (suc count) n (word ∷ words) ks h = one_more count n (decimal_below n word) (numbers count n words) ks (is_below n word) (numbers_row count n words) h
 
 pub line_row : (key : List ℕ) (count n : ℕ) (words : List (List ℕ)) (ks : List ℕ) → numbers_line key count n words ≡ Some ks → IsRow count n ks
 line_row key count n [] ks h = absurd cc

@@ -7,3 +7,4 @@ pub mod Facts
 pub mod RowFacts
 pub mod TableFacts
 pub mod Chains
+pub mod KeptLines

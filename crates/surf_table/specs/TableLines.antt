@@ -1,6 +1,6 @@
 -- The lines of a table's text, each with its numbers.
 use Rattle.std.specs.Prelude.{ℕ, zero, suc, ◌+◌, ◌^◌, Bool, true, ◌&&◌, ◌==◌, nat_lt, nat_le, bytes_eq, codes, List, [], ◌∷◌, Option, Some, None, if◌then◌else◌}
-use Rattle.surf_base.specs.Decimal.{decimal_of}
+use Rattle.surf_base.specs.Decimal.{decimal_below, decimal_of}
 use Rattle.surf_text.specs.Bytes.{tokens_of, trimmed}
 use Rattle.surf_auto.specs.Locals.{is_degree}
 
@@ -28,10 +28,6 @@ abbrev pub that_passes : (ℕ → Bool) → Option ℕ → Option ℕ
 that_passes p None = None
 that_passes p (Some k) = if p k then Some k else None
 
--- the number below n that a word spells
-abbrev pub number_below : ℕ → List ℕ → Option ℕ
-number_below n word = that_passes (λ k. nat_lt k n) (decimal_of word)
-
 abbrev pub number_onto : Option ℕ → Option (List ℕ) → Option (List ℕ)
 number_onto None ks = None
 number_onto (Some k) None = None
@@ -42,7 +38,7 @@ abbrev pub numbers : ℕ → ℕ → List (List ℕ) → Option (List ℕ)
 numbers zero n [] = Some []
 numbers zero n (word ∷ words) = None
 numbers (suc count) n [] = None
-numbers (suc count) n (word ∷ words) = number_onto (number_below n word) (numbers count n words)
+numbers (suc count) n (word ∷ words) = number_onto (decimal_below n word) (numbers count n words)
 
 -- ---- what each line must be: these words, or nothing
 
@@ -86,7 +82,7 @@ next_line sums n own (word ∷ []) = None
 next_line sums n own (word ∷ state ∷ words) = if bytes_eq word (codes "next") then if_own own (decimal_of state) (numbers sums n words) else None
 
 abbrev pub side : List ℕ → Option ℕ
-side word = number_below (2 ^ 32) word
+side word = decimal_below (2 ^ 32) word
 
 abbrev pub sides : Option ℕ → Option ℕ → Option (ℕ × ℕ)
 sides None h = None

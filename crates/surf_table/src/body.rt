@@ -25,10 +25,7 @@ pub(crate) fn read_next(
 {
     let mut next = Vec::new(alloc);
     for own in 0..states {
-        match read_next_states(&mut next, lines, own, sums, states) {
-            Ok(()) => {}
-            Err(fault) => return Err(fault),
-        }
+        read_next_states(&mut next, lines, own, sums, states)?;
     }
     Ok(next)
 }
@@ -117,10 +114,7 @@ fn add_rows(
 {
     let (width, height) = size;
     for _y in 0..height {
-        match add_row(cells, lines, width, states, margin, edge) {
-            Ok(()) => {}
-            Err(fault) => return Err(fault),
-        }
+        add_row(cells, lines, width, states, margin, edge)?;
     }
     Ok(())
 }

@@ -1,13 +1,13 @@
 // The numbers of a line.
 ghost use Rattle.std.specs.Prelude.{◌≡◌, ◌≤◌, ◌^◌, IfErr, IfOk, List, Some};
 ghost use Rattle.surf_text.specs.Bytes.{tokens_of};
-ghost use Rattle.surf_table.specs.TableLines.{Line as SpecLine, number_below, number_line, numbers, size_line};
+ghost use Rattle.surf_table.specs.TableLines.{Line as SpecLine, number_line, numbers, size_line};
 ghost use Rattle.surf_table.specs.TableTexts.{Refuses, read_line};
 ghost use Rattle.surf_table.specs.Readings.{onto};
 
 use crate::lines::Line;
 use surf_auto::SourceError;
-use surf_base::read_decimal;
+use surf_base::{read_below, read_decimal};
 use surf_text::next_token;
 
 /// The number of a line that has this word, a number and no more.
@@ -25,17 +25,6 @@ pub(crate) fn number_line(key: &[u8], words: &[u8]) -> Option<u64>
     read_decimal(number)
 }
 
-/// The number of a word, where it is below the limit.
-pub(crate) fn number_below(limit: u64, word: &[u8]) -> Option<u32>
-    requires { limit ≤ 2 ^ 32 }
-    ensures { result ≡ number_below limit word.now }
-{
-    match read_decimal(word) {
-        Some(number) if number < limit => Some(number as u32),
-        _ => None,
-    }
-}
-
 /// The width and the height of a line that has them.
 pub(crate) fn size_line(words: &[u8]) -> Option<(u32, u32)>
     ensures { result ≡ size_line (tokens_of words.now) }
@@ -49,7 +38,7 @@ pub(crate) fn size_line(words: &[u8]) -> Option<(u32, u32)>
     if word != b"size".as_slice() {
         return None;
     }
-    match (number_below(1 << 32, width), number_below(1 << 32, height)) {
+    match (read_below(1 << 32, width), read_below(1 << 32, height)) {
         (Some(width), Some(height)) => Some((width, height)),
         _ => None,
     }
@@ -75,7 +64,7 @@ pub(crate) fn add_numbers(
         if left == 0 {
             return Err(SourceError::BadTable(line));
         }
-        let Some(number) = number_below(limit, word) else {
+        let Some(number) = read_below(limit, word) else {
             return Err(SourceError::BadTable(line));
         };
         kept.push(number).map_err(|_| SourceError::NoMemory)?;

@@ -1,9 +1,8 @@
 -- The events of a simulation, and their lines, as far as they have come.
 use Rattle.std.proofs.Common.{ℕ, suc, ◌≡◌, ◌+◌, ◌-◌, ◌<◌, ◌≤◌, nat_eq, List, [], ◌∷◌, ◌++◌, length, Option, Some, None, Result, Ok, Err, refl, sym, ◌∙◌, ap, subst, arith, append_assoc, append-nil, length-append}
 use Rattle.rand_core.specs.Stream.{Stream}
-use Rattle.surf_base.specs.Known.{AppendsFront}
-use Rattle.surf_base.specs.Emits.{Sent, Emits}
-use Rattle.surf_base.proofs.EmitLemmas.{sent_nothing, sent_more, front_after, front_longer, rose_earlier}
+use Rattle.surf_base.specs.Emits.{Sent, Cut, Emits, outlet}
+use Rattle.surf_base.proofs.EmitLemmas.{sent_nothing, sent_more, cut_after, cut_longer, rose_earlier}
 use Rattle.surf_world.specs.declared.event.Event.{Event}
 use Rattle.surf_world.specs.Systems.{Surface, after, left_by}
 use Rattle.surf_world.specs.Worlds.{Placed}
@@ -68,10 +67,10 @@ module _ (w : Placed) (s : Stream) (count : ℕ) where
   all_taken n now t old new held left f none = sym (f.rest ∙ ap (λ es. f.taken ++ es) none ∙ append-nil f.taken)
 
   whole : {E : Type 0} (n : ℕ) (now : Placed) (t : Stream) (old new : Option (List ℕ)) (held left : List ℕ) (a c : ℕ) → a ≤ c → SoFar w s count n now t old new held left → placed_events now t (count - n) ≡ []
-      → Emits {T = Unit {0}} {E = E} old new held left a c (events_text 0 (placed_events w s count)) (Ok tt)
+      → Emits {T = Unit {0}} {E = E} (outlet old held a) (outlet new left c) (events_text 0 (placed_events w s count)) (Ok tt)
   whole n now t old new held left a c le f none = record {
     whole = subst (λ (es : List Event). Sent old new held left (events_text 0 es)) (all_taken n now t old new held left f none) f.text;
-    front = tt;
+    cut = tt;
     later = le;
     cause = tt;
   }
@@ -87,7 +86,7 @@ module _ (w : Placed) (s : Stream) (count : ℕ) where
 
   -- no event is left
   pub stopped : {E : Type 0} (n : ℕ) (now : Placed) (t : Stream) (old new : Option (List ℕ)) (held left : List ℕ) (a c : ℕ) → a ≤ c → n < count → SoFar w s count n now t old new held left → next_of nat_eq now.surface now.names t ≡ None
-      → Emits {T = Unit {0}} {E = E} old new held left a c (events_text 0 (placed_events w s count)) (Ok tt)
+      → Emits {T = Unit {0}} {E = E} (outlet old held a) (outlet new left c) (events_text 0 (placed_events w s count)) (Ok tt)
   stopped n now t old new held left a c le lt f is = whole n now t old new held left a c le f (none_at n now t lt is)
 
   pub stopped_world : (n : ℕ) (now : Placed) (t : Stream) (old new : Option (List ℕ)) (held left : List ℕ) → n < count → SoFar w s count n now t old new held left → next_of nat_eq now.surface now.names t ≡ None → now ≡ left_world w (placed_events w s count)
@@ -95,7 +94,7 @@ module _ (w : Placed) (s : Stream) (count : ℕ) where
 
   -- so many events were taken
   pub counted : {E : Type 0} (n : ℕ) (now : Placed) (t : Stream) (old new : Option (List ℕ)) (held left : List ℕ) (a c : ℕ) → a ≤ c → count ≤ n → SoFar w s count n now t old new held left
-      → Emits {T = Unit {0}} {E = E} old new held left a c (events_text 0 (placed_events w s count)) (Ok tt)
+      → Emits {T = Unit {0}} {E = E} (outlet old held a) (outlet new left c) (events_text 0 (placed_events w s count)) (Ok tt)
   counted n now t old new held left a c le ge f = whole n now t old new held left a c le f (none_after n now t ge)
 
   pub counted_world : (n : ℕ) (now : Placed) (t : Stream) (old new : Option (List ℕ)) (held left : List ℕ) → count ≤ n → SoFar w s count n now t old new held left → now ≡ left_world w (placed_events w s count)
@@ -103,8 +102,8 @@ module _ (w : Placed) (s : Stream) (count : ℕ) where
 
   -- a line was cut short
   pub cut_short : {T U E : Type 0} (n : ℕ) (now : Placed) (t u : Stream) (old mid new : Option (List ℕ)) (held kept left : List ℕ) (a b c : ℕ) (e : Event) (r : Result T E) (x : E) → a ≤ b → n < count → SoFar w s count n now t old mid held kept
-      → next_of nat_eq now.surface now.names t ≡ Some (e, u) → r ≡ Err x → Emits mid new kept left b c (event_text (n + 1) e) r
-      → Emits {T = U} {E = E} old new held left a c (events_text 0 (placed_events w s count)) (Err x)
+      → next_of nat_eq now.surface now.names t ≡ Some (e, u) → r ≡ Err x → Emits (outlet mid kept b) (outlet new left c) (event_text (n + 1) e) r
+      → Emits {T = U} {E = E} (outlet old held a) (outlet new left c) (events_text 0 (placed_events w s count)) (Err x)
   cut_short n now t u old mid new held kept left a b c e (Ok y) x le lt f is err line = cc
   cut_short n now t u old mid new held kept left a b c e (Err y) x le lt f is err line =
       let rest = placed_events (next_world now e) u (count - (n + 1)) in
@@ -114,10 +113,10 @@ module _ (w : Placed) (s : Stream) (count : ℕ) where
       ap (events_text 0) all ∙ lines_split f.taken n e rest f.number in
       record {
         whole = tt;
-        front =
-            subst (λ (z : List ℕ). AppendsFront old new (held ++ z)) (sym text)
-            (front_after old mid new held kept (events_text 0 f.taken) (event_text (n + 1) e ++ events_text (n + 1) rest) f.text
-            (front_longer mid new kept (event_text (n + 1) e) (events_text (n + 1) rest) line.front));
+        cut =
+            subst (λ (z : List ℕ). Cut old new held left z) (sym text)
+            (cut_after old mid new held kept left (events_text 0 f.taken) (event_text (n + 1) e ++ events_text (n + 1) rest) f.text
+            (cut_longer mid new kept left (event_text (n + 1) e) (events_text (n + 1) rest) line.cut));
         later = omega (arith, le, line.later);
         cause = rose_earlier a b c le line.cause;
       }

@@ -1,6 +1,6 @@
 // The trace of a simulation, event by event.
 ghost use Rattle.std.specs.Prelude.{◌≡◌, ◌++◌, OnOk, codes};
-ghost use Rattle.surf_base.specs.Emits.{Emits};
+ghost use Rattle.surf_base.specs.Emits.{Emits, outlet};
 ghost use Rattle.surf_pick.specs.Draws.{words_of};
 ghost use Rattle.surf_trace.specs.Traces.{event_text, events_text, trace_text};
 ghost use Rattle.surf_top.specs.Prints.{placed_events, left_world};
@@ -18,7 +18,7 @@ fn print_event<K: Sink>(
     n: u64,
     event: &Event,
 ) -> Result<(), WriteFault>
-    ensures { Emits (K.written out.old) (K.written out.new) outbox.old outbox.new (K.faults out.old) (K.faults out.new) (event_text n event.now) result }
+    ensures { Emits (outlet (K.written out.old) outbox.old (K.faults out.old)) (outlet (K.written out.new) outbox.new (K.faults out.new)) (event_text n event.now) result }
 {
     let mut line = [0u8; 80];
     let len = put_event(&mut line, n, event);
@@ -32,7 +32,7 @@ fn print_events<L: Lattice, P: Picker, K: Sink>(
     outbox: &mut Outbox,
     out: &mut K,
 ) -> Result<(), WriteFault>
-    ensures emits { Emits (K.written out.old) (K.written out.new) outbox.old outbox.new (K.faults out.old) (K.faults out.new) (events_text 0 (placed_events sim.old.placed (words_of sim.old.generator) count)) result }
+    ensures emits { Emits (outlet (K.written out.old) outbox.old (K.faults out.old)) (outlet (K.written out.new) outbox.new (K.faults out.new)) (events_text 0 (placed_events sim.old.placed (words_of sim.old.generator) count)) result }
     ensures world { OnOk result (sim.new.placed ≡ left_world sim.old.placed (placed_events sim.old.placed (words_of sim.old.generator) count)) }
 {
     for n in 0..count {
@@ -54,7 +54,7 @@ fn print_lines<L: Lattice, P: Picker, K: Sink>(
     outbox: &mut Outbox,
     out: &mut K,
 ) -> Result<(), WriteFault>
-    ensures emits { Emits (K.written out.old) (K.written out.new) outbox.old outbox.new (K.faults out.old) (K.faults out.new) (events_text 0 (placed_events sim.old.placed (words_of sim.old.generator) count) ++ codes "!END_TRACE\n") result }
+    ensures emits { Emits (outlet (K.written out.old) outbox.old (K.faults out.old)) (outlet (K.written out.new) outbox.new (K.faults out.new)) (events_text 0 (placed_events sim.old.placed (words_of sim.old.generator) count) ++ codes "!END_TRACE\n") result }
     ensures world { OnOk result (sim.new.placed ≡ left_world sim.old.placed (placed_events sim.old.placed (words_of sim.old.generator) count)) }
 {
     match print_events(sim, count, outbox, out) {
@@ -70,7 +70,7 @@ pub fn print_trace<L: Lattice, P: Picker, K: Sink>(
     outbox: &mut Outbox,
     out: &mut K,
 ) -> Result<(), WriteFault>
-    ensures emits { Emits (K.written out.old) (K.written out.new) outbox.old outbox.new (K.faults out.old) (K.faults out.new) (trace_text (placed_events sim.old.placed (words_of sim.old.generator) count)) result }
+    ensures emits { Emits (outlet (K.written out.old) outbox.old (K.faults out.old)) (outlet (K.written out.new) outbox.new (K.faults out.new)) (trace_text (placed_events sim.old.placed (words_of sim.old.generator) count)) result }
     ensures world { OnOk result (sim.new.placed ≡ left_world sim.old.placed (placed_events sim.old.placed (words_of sim.old.generator) count)) }
 {
     match outbox.put(out, b"!START_TRACE\n") {

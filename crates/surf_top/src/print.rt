@@ -1,6 +1,6 @@
 // The final surface as a block, and the last word.
 ghost use Rattle.std.specs.Prelude.{◌≡◌, ◌≤◌, ◌<◌, ◌*◌, ◌++◌, ◌∷◌, [], OnOk, All, length, map, take, drop, codes, Some, slice_get};
-ghost use Rattle.surf_base.specs.Emits.{Emits};
+ghost use Rattle.surf_base.specs.Emits.{Emits, outlet};
 ghost use Rattle.surf_rules.specs.Names.{text_of};
 ghost use Rattle.surf_text.specs.Bytes.{spaced, rows_of};
 ghost use Rattle.surf_top.specs.Prints.{behind_name, foot_and_word, end_text, number_word};
@@ -26,7 +26,7 @@ fn print_name<K: Sink>(
     text: &[u8],
     behind: u8,
 ) -> Result<(), WriteFault>
-    ensures { Emits (K.written out.old) (K.written out.new) outbox.old outbox.new (K.faults out.old) (K.faults out.new) (text.now ++ behind ∷ []) result }
+    ensures { Emits (outlet (K.written out.old) outbox.old (K.faults out.old)) (outlet (K.written out.new) outbox.new (K.faults out.new)) (text.now ++ behind ∷ []) result }
 {
     match outbox.put(out, text) {
         Ok(()) => outbox.put(out, &[behind]),
@@ -55,7 +55,7 @@ fn print_row<L: Lattice, K: Sink>(
     requires sides { length world.now.names ≡ world.now.surface.grid.width * world.now.surface.grid.height }
     requires few { length world.now.names ≤ 33554432 }
     requires row { y < world.now.surface.grid.height }
-    ensures { Emits (K.written out.old) (K.written out.new) outbox.old outbox.new (K.faults out.old) (K.faults out.new) (spaced (take world.now.surface.grid.width (drop (y * world.now.surface.grid.width) (map (text_of names.now) world.now.names))) ++ 10 ∷ []) result }
+    ensures { Emits (outlet (K.written out.old) outbox.old (K.faults out.old)) (outlet (K.written out.new) outbox.new (K.faults out.new)) (spaced (take world.now.surface.grid.width (drop (y * world.now.surface.grid.width) (map (text_of names.now) world.now.names))) ++ 10 ∷ []) result }
 {
     let width = world.grid().width();
     let first = y as usize * width as usize;
@@ -79,7 +79,7 @@ fn print_rows<L: Lattice, K: Sink>(
     requires numbers { All (λ k. k < length names.now) world.now.names }
     requires sides { length world.now.names ≡ world.now.surface.grid.width * world.now.surface.grid.height }
     requires few { length world.now.names ≤ 33554432 }
-    ensures { Emits (K.written out.old) (K.written out.new) outbox.old outbox.new (K.faults out.old) (K.faults out.new) (rows_text world.now.surface.grid (map (text_of names.now) world.now.names)) result }
+    ensures { Emits (outlet (K.written out.old) outbox.old (K.faults out.old)) (outlet (K.written out.new) outbox.new (K.faults out.new)) (rows_text world.now.surface.grid (map (text_of names.now) world.now.names)) result }
 {
     for y in 0..world.grid().height() {
         match print_row(world, names, y, outbox, out) {
@@ -105,7 +105,7 @@ fn print_word<L: Lattice, K: Sink>(
     outbox: &mut Outbox,
     out: &mut K,
 ) -> Result<(), WriteFault>
-    ensures { Emits (K.written out.old) (K.written out.new) outbox.old outbox.new (K.faults out.old) (K.faults out.new) (number_word world.now.surface world.now.names) result }
+    ensures { Emits (outlet (K.written out.old) outbox.old (K.faults out.old)) (outlet (K.written out.new) outbox.new (K.faults out.new)) (number_word world.now.surface world.now.names) result }
 {
     outbox.put(out, last_word(world))
 }
@@ -116,7 +116,7 @@ fn print_foot<L: Lattice, K: Sink>(
     outbox: &mut Outbox,
     out: &mut K,
 ) -> Result<(), WriteFault>
-    ensures { Emits (K.written out.old) (K.written out.new) outbox.old outbox.new (K.faults out.old) (K.faults out.new) (foot_and_word world.now) result }
+    ensures { Emits (outlet (K.written out.old) outbox.old (K.faults out.old)) (outlet (K.written out.new) outbox.new (K.faults out.new)) (foot_and_word world.now) result }
 {
     match outbox.put(out, b"!END_INIT_STATE\n") {
         Ok(()) => print_word(world, outbox, out),
@@ -133,7 +133,7 @@ fn print_rest<L: Lattice, K: Sink>(
     requires numbers { All (λ k. k < length names.now) world.now.names }
     requires sides { length world.now.names ≡ world.now.surface.grid.width * world.now.surface.grid.height }
     requires few { length world.now.names ≤ 33554432 }
-    ensures { Emits (K.written out.old) (K.written out.new) outbox.old outbox.new (K.faults out.old) (K.faults out.new) (rows_text world.now.surface.grid (map (text_of names.now) world.now.names) ++ foot_and_word world.now) result }
+    ensures { Emits (outlet (K.written out.old) outbox.old (K.faults out.old)) (outlet (K.written out.new) outbox.new (K.faults out.new)) (rows_text world.now.surface.grid (map (text_of names.now) world.now.names) ++ foot_and_word world.now) result }
 {
     match print_rows(world, names, outbox, out) {
         Ok(()) => print_foot(world, outbox, out),
@@ -149,7 +149,7 @@ pub fn print_end<L: Lattice, K: Sink>(
     out: &mut K,
 ) -> Result<(), WriteFault>
     requires { All (λ k. k < length names.now) world.now.names }
-    ensures { Emits (K.written out.old) (K.written out.new) outbox.old outbox.new (K.faults out.old) (K.faults out.new) (end_text (text_of names.now) world.now) result }
+    ensures { Emits (outlet (K.written out.old) outbox.old (K.faults out.old)) (outlet (K.written out.new) outbox.new (K.faults out.new)) (end_text (text_of names.now) world.now) result }
 {
     let _count = world.site_count();
     match outbox.put(out, b"!START_INIT_STATE\n") {

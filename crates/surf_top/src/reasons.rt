@@ -1,7 +1,7 @@
 // The line that says why a call did not end well.
 ghost use Rattle.std.specs.Prelude.{◌≡◌, ◌++◌, ◌∷◌, [], codes, OnOk};
 ghost use Rattle.std.specs.Fmt.{decimal};
-ghost use Rattle.surf_base.specs.Emits.{Emits};
+ghost use Rattle.surf_base.specs.Emits.{Emits, outlet};
 ghost use Rattle.surf_top.specs.Notes.{note_of, Notes, behind, refusal_words, tail_text};
 
 use crate::words::{Tail, words_of_refusal};
@@ -10,7 +10,7 @@ use itoa::Buffer;
 use surf_base::{Outbox, Sink, WriteFault, put_decimal, write_all};
 
 fn put_digits<N: Sink>(outbox: &mut Outbox, notes: &mut N, n: u64) -> Result<(), WriteFault>
-    ensures { Emits (N.written notes.old) (N.written notes.new) outbox.old outbox.new (N.faults notes.old) (N.faults notes.new) (decimal n) result }
+    ensures { Emits (outlet (N.written notes.old) outbox.old (N.faults notes.old)) (outlet (N.written notes.new) outbox.new (N.faults notes.new)) (decimal n) result }
 {
     let mut digits = [0u8; 20];
     let count = put_decimal(&mut digits, n);
@@ -19,7 +19,7 @@ fn put_digits<N: Sink>(outbox: &mut Outbox, notes: &mut N, n: u64) -> Result<(),
 
 // The same of a number that may have 39 digits.
 fn put_wide_digits<N: Sink>(outbox: &mut Outbox, notes: &mut N, n: u128) -> Result<(), WriteFault>
-    ensures { Emits (N.written notes.old) (N.written notes.new) outbox.old outbox.new (N.faults notes.old) (N.faults notes.new) (decimal n) result }
+    ensures { Emits (outlet (N.written notes.old) outbox.old (N.faults notes.old)) (outlet (N.written notes.new) outbox.new (N.faults notes.new)) (decimal n) result }
 {
     let mut digits = Buffer::new();
     outbox.put(notes, digits.format(n).as_bytes())
@@ -27,7 +27,7 @@ fn put_wide_digits<N: Sink>(outbox: &mut Outbox, notes: &mut N, n: u128) -> Resu
 
 // A text behind a blank.
 fn put_behind<N: Sink>(outbox: &mut Outbox, notes: &mut N, text: &[u8]) -> Result<(), WriteFault>
-    ensures { Emits (N.written notes.old) (N.written notes.new) outbox.old outbox.new (N.faults notes.old) (N.faults notes.new) (behind text.now) result }
+    ensures { Emits (outlet (N.written notes.old) outbox.old (N.faults notes.old)) (outlet (N.written notes.new) outbox.new (N.faults notes.new)) (behind text.now) result }
 {
     match outbox.put(notes, b" ") {
         Ok(()) => outbox.put(notes, text),
@@ -37,7 +37,7 @@ fn put_behind<N: Sink>(outbox: &mut Outbox, notes: &mut N, text: &[u8]) -> Resul
 
 // A number behind a blank.
 fn put_number<N: Sink>(outbox: &mut Outbox, notes: &mut N, n: u64) -> Result<(), WriteFault>
-    ensures { Emits (N.written notes.old) (N.written notes.new) outbox.old outbox.new (N.faults notes.old) (N.faults notes.new) (behind (decimal n)) result }
+    ensures { Emits (outlet (N.written notes.old) outbox.old (N.faults notes.old)) (outlet (N.written notes.new) outbox.new (N.faults notes.new)) (behind (decimal n)) result }
 {
     match outbox.put(notes, b" ") {
         Ok(()) => put_digits(outbox, notes, n),
@@ -46,7 +46,7 @@ fn put_number<N: Sink>(outbox: &mut Outbox, notes: &mut N, n: u64) -> Result<(),
 }
 
 fn put_wide_number<N: Sink>(outbox: &mut Outbox, notes: &mut N, n: u128) -> Result<(), WriteFault>
-    ensures { Emits (N.written notes.old) (N.written notes.new) outbox.old outbox.new (N.faults notes.old) (N.faults notes.new) (behind (decimal n)) result }
+    ensures { Emits (outlet (N.written notes.old) outbox.old (N.faults notes.old)) (outlet (N.written notes.new) outbox.new (N.faults notes.new)) (behind (decimal n)) result }
 {
     match outbox.put(notes, b" ") {
         Ok(()) => put_wide_digits(outbox, notes, n),
@@ -60,7 +60,7 @@ fn put_line_and_name<N: Sink>(
     line: u64,
     name: &[u8],
 ) -> Result<(), WriteFault>
-    ensures { Emits (N.written notes.old) (N.written notes.new) outbox.old outbox.new (N.faults notes.old) (N.faults notes.new) (behind (decimal line) ++ behind name.now) result }
+    ensures { Emits (outlet (N.written notes.old) outbox.old (N.faults notes.old)) (outlet (N.written notes.new) outbox.new (N.faults notes.new)) (behind (decimal line) ++ behind name.now) result }
 {
     match put_number(outbox, notes, line) {
         Ok(()) => put_behind(outbox, notes, name),
@@ -74,7 +74,7 @@ fn put_numbers<N: Sink>(
     first: u64,
     second: u64,
 ) -> Result<(), WriteFault>
-    ensures { Emits (N.written notes.old) (N.written notes.new) outbox.old outbox.new (N.faults notes.old) (N.faults notes.new) (behind (decimal first) ++ behind (decimal second)) result }
+    ensures { Emits (outlet (N.written notes.old) outbox.old (N.faults notes.old)) (outlet (N.written notes.new) outbox.new (N.faults notes.new)) (behind (decimal first) ++ behind (decimal second)) result }
 {
     match put_number(outbox, notes, first) {
         Ok(()) => put_number(outbox, notes, second),
@@ -84,7 +84,7 @@ fn put_numbers<N: Sink>(
 
 // What follows the words.
 fn put_tail<N: Sink>(outbox: &mut Outbox, notes: &mut N, tail: &Tail<'_>) -> Result<(), WriteFault>
-    ensures { Emits (N.written notes.old) (N.written notes.new) outbox.old outbox.new (N.faults notes.old) (N.faults notes.new) (tail_text tail.now) result }
+    ensures { Emits (outlet (N.written notes.old) outbox.old (N.faults notes.old)) (outlet (N.written notes.new) outbox.new (N.faults notes.new)) (tail_text tail.now) result }
 {
     match tail {
         Tail::Nothing => Ok(()),
@@ -102,7 +102,7 @@ fn put_words<N: Sink>(
     words: &[u8],
     tail: &Tail<'_>,
 ) -> Result<(), WriteFault>
-    ensures { Emits (N.written notes.old) (N.written notes.new) outbox.old outbox.new (N.faults notes.old) (N.faults notes.new) (words.now ++ tail_text tail.now) result }
+    ensures { Emits (outlet (N.written notes.old) outbox.old (N.faults notes.old)) (outlet (N.written notes.new) outbox.new (N.faults notes.new)) (words.now ++ tail_text tail.now) result }
 {
     match outbox.put(notes, words) {
         Ok(()) => put_tail(outbox, notes, tail),
@@ -115,7 +115,7 @@ fn put_reason<N: Sink>(
     notes: &mut N,
     refusal: &Refusal,
 ) -> Result<(), WriteFault>
-    ensures { Emits (N.written notes.old) (N.written notes.new) outbox.old outbox.new (N.faults notes.old) (N.faults notes.new) (refusal_words refusal.now) result }
+    ensures { Emits (outlet (N.written notes.old) outbox.old (N.faults notes.old)) (outlet (N.written notes.new) outbox.new (N.faults notes.new)) (refusal_words refusal.now) result }
 {
     let (words, tail) = words_of_refusal(refusal);
     put_words(outbox, notes, words, &tail)
@@ -123,7 +123,7 @@ fn put_reason<N: Sink>(
 
 // The last text of a line, and all that is held.
 fn put_last<N: Sink>(outbox: &mut Outbox, notes: &mut N, text: &[u8]) -> Result<(), WriteFault>
-    ensures emits { Emits (N.written notes.old) (N.written notes.new) outbox.old outbox.new (N.faults notes.old) (N.faults notes.new) text.now result }
+    ensures emits { Emits (outlet (N.written notes.old) outbox.old (N.faults notes.old)) (outlet (N.written notes.new) outbox.new (N.faults notes.new)) text.now result }
     ensures empty { OnOk result (outbox.new ≡ []) }
 {
     match outbox.put(notes, text) {
@@ -137,7 +137,7 @@ fn put_rest<N: Sink>(
     notes: &mut N,
     refusal: &Refusal,
 ) -> Result<(), WriteFault>
-    ensures emits { Emits (N.written notes.old) (N.written notes.new) outbox.old outbox.new (N.faults notes.old) (N.faults notes.new) (refusal_words refusal.now ++ 10 ∷ []) result }
+    ensures emits { Emits (outlet (N.written notes.old) outbox.old (N.faults notes.old)) (outlet (N.written notes.new) outbox.new (N.faults notes.new)) (refusal_words refusal.now ++ 10 ∷ []) result }
     ensures empty { OnOk result (outbox.new ≡ []) }
 {
     match put_reason(outbox, notes, refusal) {
@@ -151,7 +151,7 @@ fn put_refusal<N: Sink>(
     notes: &mut N,
     refusal: &Refusal,
 ) -> Result<(), WriteFault>
-    ensures emits { Emits (N.written notes.old) (N.written notes.new) outbox.old outbox.new (N.faults notes.old) (N.faults notes.new) (codes "surf: refused " ++ (refusal_words refusal.now ++ 10 ∷ [])) result }
+    ensures emits { Emits (outlet (N.written notes.old) outbox.old (N.faults notes.old)) (outlet (N.written notes.new) outbox.new (N.faults notes.new)) (codes "surf: refused " ++ (refusal_words refusal.now ++ 10 ∷ [])) result }
     ensures empty { OnOk result (outbox.new ≡ []) }
 {
     match outbox.put(notes, b"surf: refused ") {
@@ -175,7 +175,7 @@ fn send<N: Sink>(notes: &mut N, line: &[u8])
 
 // The end of the line of an event that is not enabled, from its number on.
 fn put_event_end<N: Sink>(outbox: &mut Outbox, notes: &mut N, k: u64) -> Result<(), WriteFault>
-    ensures emits { Emits (N.written notes.old) (N.written notes.new) outbox.old outbox.new (N.faults notes.old) (N.faults notes.new) (decimal k ++ codes " is not enabled\n") result }
+    ensures emits { Emits (outlet (N.written notes.old) outbox.old (N.faults notes.old)) (outlet (N.written notes.new) outbox.new (N.faults notes.new)) (decimal k ++ codes " is not enabled\n") result }
     ensures empty { OnOk result (outbox.new ≡ []) }
 {
     match put_digits(outbox, notes, k) {
@@ -185,7 +185,7 @@ fn put_event_end<N: Sink>(outbox: &mut Outbox, notes: &mut N, k: u64) -> Result<
 }
 
 fn put_event<N: Sink>(outbox: &mut Outbox, notes: &mut N, k: u64) -> Result<(), WriteFault>
-    ensures emits { Emits (N.written notes.old) (N.written notes.new) outbox.old outbox.new (N.faults notes.old) (N.faults notes.new) (codes "surf: event " ++ (decimal k ++ codes " is not enabled\n")) result }
+    ensures emits { Emits (outlet (N.written notes.old) outbox.old (N.faults notes.old)) (outlet (N.written notes.new) outbox.new (N.faults notes.new)) (codes "surf: event " ++ (decimal k ++ codes " is not enabled\n")) result }
     ensures empty { OnOk result (outbox.new ≡ []) }
 {
     match outbox.put(notes, b"surf: event ") {

@@ -1,8 +1,8 @@
 // The command `run`.
 ghost use Rattle.std.specs.Prelude.{◌≡◌, ◌≤◌, ◌++◌, [], OnOk, OnErr, IfSome, length};
 ghost use Rattle.std.specs.Io.KnownBytes.{Appends};
-ghost use Rattle.surf_base.specs.Causes.{HasCause};
-ghost use Rattle.surf_base.specs.Emits.{Emits};
+ghost use Rattle.surf_base.specs.Causes.{Rose};
+ghost use Rattle.surf_base.specs.Emits.{Emits, outlet};
 ghost use Rattle.surf_base.specs.Known.{AppendsFront};
 ghost use Rattle.surf_pick.specs.Draws.{words_of};
 ghost use Rattle.surf_rules.specs.Names.{text_of};
@@ -33,7 +33,7 @@ fn print_held<L: Lattice, P: Picker, K: Sink>(
     out: &mut K,
 ) -> Result<(), WriteFault>
     requires { AreBelow (length names.now) sim.old.placed.surface sim.old.placed.names }
-    ensures { Emits (K.written out.old) (K.written out.new) outbox.old outbox.new (K.faults out.old) (K.faults out.new) (placed_text (text_of names.now) sim.old.placed (words_of sim.old.generator) count) result }
+    ensures { Emits (outlet (K.written out.old) outbox.old (K.faults out.old)) (outlet (K.written out.new) outbox.new (K.faults out.new)) (placed_text (text_of names.now) sim.old.placed (words_of sim.old.generator) count) result }
 {
     match print_trace(sim, count, outbox, out) {
         Ok(()) => print_end(sim.world(), names, outbox, out),
@@ -51,7 +51,7 @@ fn print_run<L: Lattice, P: Picker, K: Sink>(
     requires { AreBelow (length names.now) sim.old.placed.surface sim.old.placed.names }
     ensures whole { OnOk result (Appends (K.written out.old) (K.written out.new) (placed_text (text_of names.now) sim.old.placed (words_of sim.old.generator) count)) }
     ensures front { OnErr result (AppendsFront (K.written out.old) (K.written out.new) (placed_text (text_of names.now) sim.old.placed (words_of sim.old.generator) count)) }
-    ensures cause { HasCause (K.faults out.old) (K.faults out.new) result }
+    ensures cause { OnErr result (Rose (K.faults out.old) (K.faults out.new)) }
 {
     let mut outbox = Outbox::new();
     match print_held(sim, names, count, &mut outbox, out) {

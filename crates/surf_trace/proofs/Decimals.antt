@@ -6,9 +6,9 @@ use Rattle.std.specs.Str.{bytes_eq}
 use Rattle.std.proofs.lemmas.Fmt.{decimal_by_steps, length-decimal-le}
 use Rattle.std.proofs.lemmas.Bool.{and_parts, le-leb, lt-ltb, leb-true, ne_eqb}
 use Rattle.std.proofs.lemmas.List.Folds.{list_all-append}
-use Rattle.surf_base.specs.Decimal.{value_from, decimal_of, is_digit}
+use Rattle.surf_base.specs.Decimal.{value_from, decimal_of, decimal_below, if_below, is_digit}
 use Rattle.surf_text.specs.Bytes.{is_filled, is_plain, is_word}
-use Rattle.surf_trace.specs.TraceTexts.{short_of, if_short, is_skipped}
+use Rattle.surf_trace.specs.TraceTexts.{is_skipped}
 use Rattle.surf_trace.proofs.Words.{both}
 
 digit : (b : ℕ) → 48 ≤ b → b ≤ 57 → is_digit b ≡ true
@@ -64,8 +64,8 @@ decimal_read n lt =
     let few : length (decimal n) ≤ 20 = length-decimal-le 20 n (omega arith) (omega (arith, lt)) lt in
     rw (le-leb 1 (length (decimal n)) (filled_length (decimal n) s.some), le-leb (length (decimal n)) 20 few, s.digits, s.value, lt-ltb n (2 ^ 64) lt) refl
 
-pub short_read : (n : ℕ) → n < 2 ^ 32 → short_of (decimal n) ≡ Some n
-short_read n lt = ap if_short (decimal_read n (omega (arith, lt))) ∙ rw (lt-ltb n (2 ^ 32) lt) refl
+pub short_read : (n : ℕ) → n < 2 ^ 32 → decimal_below (2 ^ 32) (decimal n) ≡ Some n
+short_read n lt = ap (if_below (2 ^ 32)) (decimal_read n (omega (arith, lt))) ∙ rw (lt-ltb n (2 ^ 32) lt) refl
 
 -- a line that begins with a digit is neither skipped nor a mark
 digits_kept : (ds more : List ℕ) → is_filled ds ≡ true → list_all is_digit ds ≡ true → is_skipped (ds ++ more) ≡ false

@@ -5,13 +5,13 @@ use Rattle.std.specs.List.{list_all}
 use Rattle.std.specs.Fmt.{decimal}
 use Rattle.std.specs.Str.{bytes_eq}
 use Rattle.std.proofs.lemmas.Bool.{eq-eqb}
-use Rattle.surf_base.specs.Decimal.{decimal_of}
+use Rattle.surf_base.specs.Decimal.{decimal_of, decimal_below}
 use Rattle.surf_lattice.specs.declared.site.Site.{Site}
 use Rattle.surf_lattice.specs.Grids.{site_from}
 use Rattle.surf_world.specs.declared.event.Event.{Event}
 use Rattle.surf_text.specs.Bytes.{lines_of, tokens_of, trimmed, spaced, is_word}
 use Rattle.surf_trace.specs.Traces.{event_text, events_text, trace_text}
-use Rattle.surf_trace.specs.TraceTexts.{short_of, site_of, second_of, is_number, event_from, event_of, is_skipped, block_of, trace_of, IsShortSite, IsShort}
+use Rattle.surf_trace.specs.TraceTexts.{site_of, second_of, is_number, event_from, event_of, is_skipped, block_of, trace_of, IsShortSite, IsShort}
 use Rattle.surf_trace.proofs.Words.{both, line_first, spaced_trimmed, spaced_line, spaced_tokens}
 use Rattle.surf_trace.proofs.Decimals.{decimal_word, decimal_read, short_read, decimal_kept, decimal_no_mark}
 
@@ -51,7 +51,7 @@ are_words n e lt s =
     both _ _ (decimal_word n lt) (both _ _ (short_word e.rule s.0) (both _ _ (short_word e.first.x s.1.0) (both _ _ (short_word e.first.y s.1.1) (second_are_words e.second s.2))))
 
 site_back : (p : Site) → IsShortSite p → site_of (decimal p.x) (decimal p.y) ≡ Some p
-site_back p s = ap (λ o. site_from o (short_of (decimal p.y))) (short_read p.x s.0) ∙ ap (λ o. site_from (Some p.x) o) (short_read p.y s.1)
+site_back p s = ap (λ o. site_from o (decimal_below (2 ^ 32) (decimal p.y))) (short_read p.x s.0) ∙ ap (λ o. site_from (Some p.x) o) (short_read p.y s.1)
 
 second_back : (q : Option Site) → IfSome q IsShortSite → second_of (second_words q) ≡ Some q
 second_back None s = refl
@@ -62,7 +62,7 @@ from_parts n e k r p q hk hr hp hq = rw (hk, hr, hp, hq, eq-eqb n n refl) refl
 
 event_back : (n : ℕ) (e : Event) → n < 2 ^ 64 → IsShort e → event_of n (words_of n e) ≡ Some e
 event_back n e lt s =
-    from_parts n e (decimal_of (decimal n)) (short_of (decimal e.rule)) (site_of (decimal e.first.x) (decimal e.first.y)) (second_of (second_words e.second))
+    from_parts n e (decimal_of (decimal n)) (decimal_below (2 ^ 32) (decimal e.rule)) (site_of (decimal e.first.x) (decimal e.first.y)) (second_of (second_words e.second))
     (decimal_read n lt) (short_read e.rule s.0) (site_back e.first s.1) (second_back e.second s.2)
 
 one_line : (line : ℕ) (es : List Event) (l : List ℕ) (ls : List (List ℕ)) (e : Event) → trimmed l ≡ l → bytes_eq l (codes "!END_TRACE") ≡ false → is_skipped l ≡ false → event_of (length es + 1) (tokens_of l) ≡ Some e → block_of 1 line es (l ∷ ls) ≡ block_of 1 (line + 1) (es ++ e ∷ []) ls

@@ -1,6 +1,6 @@
 -- The events that a trace block spells, or the text's first fault.
-use Rattle.std.specs.Prelude.{◌≡◌, ℕ, ◌+◌, ◌^◌, ◌<◌, IfSome, Bool, true, false, ◌||◌, ◌==◌, nat_lt, bytes_eq, codes, List, [], ◌∷◌, ◌++◌, length, Option, Some, None, Result, Ok, Err, if◌then◌else◌}
-use Rattle.surf_base.specs.Decimal.{decimal_of}
+use Rattle.std.specs.Prelude.{◌≡◌, ℕ, ◌+◌, ◌^◌, ◌<◌, IfSome, Bool, true, false, ◌||◌, ◌==◌, bytes_eq, codes, List, [], ◌∷◌, ◌++◌, length, Option, Some, None, Result, Ok, Err, if◌then◌else◌}
+use Rattle.surf_base.specs.Decimal.{decimal_below, decimal_of}
 use Rattle.surf_lattice.specs.declared.site.Site.{Site}
 use Rattle.surf_lattice.specs.Grids.{site_from}
 use Rattle.surf_world.specs.declared.event.Event.{Event}
@@ -8,16 +8,9 @@ use Rattle.surf_text.specs.Bytes.{lines_of, tokens_of, trimmed}
 use Rattle.surf_trace.specs.declared.error.TraceError.{TraceError}
 use Rattle.surf_trace.specs.declared.error.TraceError.TheVariants.{NoTrace, BadTrace, Unclosed, NoMemory}
 
-abbrev pub if_short : Option ℕ → Option ℕ
-if_short None = None
-if_short (Some n) = if nat_lt n (2 ^ 32) then Some n else None
-
--- the number at most 4,294,967,295 that a token spells
-abbrev pub short_of : List ℕ → Option ℕ
-short_of t = if_short (decimal_of t)
-
+-- a site whose numbers are at most 4,294,967,295
 abbrev pub site_of : List ℕ → List ℕ → Option Site
-site_of x y = site_from (short_of x) (short_of y)
+site_of x y = site_from (decimal_below (2 ^ 32) x) (decimal_below (2 ^ 32) y)
 
 abbrev pub as_second : Option Site → Option (Option Site)
 as_second None = None
@@ -46,7 +39,7 @@ event_of n [] = None
 event_of n (k ∷ []) = None
 event_of n (k ∷ r ∷ []) = None
 event_of n (k ∷ r ∷ x ∷ []) = None
-event_of n (k ∷ r ∷ x ∷ y ∷ ts) = if is_number n (decimal_of k) then event_from (short_of r) (site_of x y) (second_of ts) else None
+event_of n (k ∷ r ∷ x ∷ y ∷ ts) = if is_number n (decimal_of k) then event_from (decimal_below (2 ^ 32) r) (site_of x y) (second_of ts) else None
 
 -- an empty line, or one that begins with # or %
 abbrev pub is_skipped : List ℕ → Bool

@@ -6,23 +6,18 @@ ghost use Rattle.surf_trace.specs.TraceTexts.{block_of, is_skipped, trace_of, Re
 use crate::TraceError;
 use crate::event_line::read_event;
 use std::alloc::Global;
-use surf_text::{first_line, trim};
+use surf_text::{Lines, trim};
 use surf_world::Event;
 
-// The number of the line that opens the block, and what follows it.
-fn find_block(text: &[u8]) -> Option<(u64, &[u8])>
-    ensures some { IfSome result (λ r. trace_of text.now ≡ block_of r.0 r.0 [] (lines_of r.1.now)) }
-    ensures within { IfSome result (λ r. r.0 + length r.1.now ≤ length text.now) }
+// The lines behind the one that opens the block.
+fn find_block(text: &[u8]) -> Option<Lines<'_>>
+    ensures some { IfSome result (λ r. trace_of text.now ≡ block_of r.number r.number [] (lines_of r.left)) }
     ensures none { IfNone result (trace_of text.now ≡ Err TraceError.NoTrace) }
 {
-    let mut rest = text;
-    let mut line = 0;
-    while !rest.is_empty() {
-        let (first, after) = first_line(rest);
-        rest = after;
-        line += 1;
-        if trim(first) == b"!START_TRACE".as_slice() {
-            return Some((line, rest));
+    let mut lines = Lines::new(text, 0);
+    while let Some(line) = lines.next() {
+        if trim(line) == b"!START_TRACE".as_slice() {
+            return Some(lines);
         }
     }
     None
@@ -34,20 +29,15 @@ fn is_skipped_line(line: &[u8]) -> bool
     line.is_empty() || line[0] == b'#' || line[0] == b'%'
 }
 
-// The events of the block that this line opened, from what follows it.
-fn read_block(alloc: Global, opened: u64, text: &[u8]) -> Result<Vec<Event>, TraceError>
-    requires { opened + length text.now < 2 ^ 64 }
-    ensures ok { IfOk result (λ v. block_of opened opened [] (lines_of text.now) ≡ Ok v.items) }
-    ensures refused { IfErr result (λ f. Refuses (block_of opened opened [] (lines_of text.now)) f) }
+// The events of the block that the last line opened, from the lines behind it.
+fn read_block(alloc: Global, lines: &mut Lines<'_>) -> Result<Vec<Event>, TraceError>
+    ensures ok { IfOk result (λ v. block_of lines.old.number lines.old.number [] (lines_of lines.old.left) ≡ Ok v.items) }
+    ensures refused { IfErr result (λ f. Refuses (block_of lines.old.number lines.old.number [] (lines_of lines.old.left)) f) }
 {
+    let opened = lines.number();
     let mut events = Vec::new(alloc);
-    let mut rest = text;
-    let mut line = opened;
-    while !rest.is_empty() {
-        let (first, after) = first_line(rest);
-        let content = trim(first);
-        rest = after;
-        line += 1;
+    while let Some(line) = lines.next() {
+        let content = trim(line);
         if content == b"!END_TRACE".as_slice() {
             return Ok(events);
         }
@@ -55,7 +45,7 @@ fn read_block(alloc: Global, opened: u64, text: &[u8]) -> Result<Vec<Event>, Tra
             continue;
         }
         let Some(event) = read_event(events.len() as u64 + 1, content) else {
-            return Err(TraceError::BadTrace(line));
+            return Err(TraceError::BadTrace(lines.number()));
         };
         events.push(event).map_err(|_| TraceError::NoMemory)?;
     }
@@ -71,7 +61,7 @@ pub fn read_trace(alloc: Global, bytes: &[u8]) -> Result<Vec<Event>, TraceError>
     ensures refused { IfErr result (λ f. Refuses (trace_of bytes.now) f) }
 {
     match find_block(bytes) {
-        Some((opened, text)) => read_block(alloc, opened, text),
+        Some(mut lines) => read_block(alloc, &mut lines),
         None => Err(TraceError::NoTrace),
     }
 }

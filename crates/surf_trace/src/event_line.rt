@@ -1,26 +1,20 @@
 // The event of a line.
 ghost use Rattle.std.specs.Prelude.{◌≡◌};
 ghost use Rattle.surf_text.specs.Bytes.{tokens_of};
-ghost use Rattle.surf_trace.specs.TraceTexts.{event_of, second_of, short_of, site_of};
+ghost use Rattle.surf_trace.specs.TraceTexts.{event_of, second_of, site_of};
 
-use surf_base::read_decimal;
+use surf_base::{read_below, read_decimal};
 use surf_lattice::Site;
 use surf_text::next_token;
 use surf_world::Event;
 
-fn read_short(token: &[u8]) -> Option<u32>
-    ensures { result ≡ short_of token.now }
-{
-    match read_decimal(token) {
-        Some(number) => u32::try_from(number).ok(),
-        None => None,
-    }
-}
+// The numbers of a rule and of a site are below this.
+const SHORT: u64 = 1 << 32;
 
 fn read_site(x: &[u8], y: &[u8]) -> Option<Site>
     ensures { result ≡ site_of x.now y.now }
 {
-    match (read_short(x), read_short(y)) {
+    match (read_below(SHORT, x), read_below(SHORT, y)) {
         (Some(x), Some(y)) => Some(Site { x, y }),
         _ => None,
     }
@@ -51,7 +45,7 @@ pub(crate) fn read_event(place: u64, line: &[u8]) -> Option<Event>
     if read_decimal(number) != Some(place) {
         return None;
     }
-    match (read_short(rule), read_site(x, y), read_second(rest)) {
+    match (read_below(SHORT, rule), read_site(x, y), read_second(rest)) {
         (Some(rule), Some(first), Some(second)) => Some(Event {
             rule,
             first,

@@ -10,3 +10,4 @@ pub mod Agree
 pub mod Renamed
 pub mod Sums
 pub mod Once
+pub mod Outside

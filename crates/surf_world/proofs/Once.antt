@@ -62,7 +62,7 @@ toward_sites : (test : Event → Bool) (n : ℕ) (p : Site) (o : Option Site) (e
 toward_sites test n p None e c = absurd (has_none e c)
 toward_sites test n p (Some q) e c = let s = on_sites test n p (Some q) e c in (s.0, (q, s.1, refl))
 
-at_first : (test : Event → Bool) (g : Grid) (n : ℕ) (p : Site) (e : Event) → Contains (events_at test g n p) e → e.first ≡ p
+pub at_first : (test : Event → Bool) (g : Grid) (n : ℕ) (p : Site) (e : Event) → Contains (events_at test g n p) e → e.first ≡ p
 at_first test g n p e c = elim (Contains-append_cases (events_on test n p None) (flat_map (λ i. events_toward test n p (neighbour g p i)) (directions g)) e c) [
   | inl a ↦ (on_sites test n p None e a).0
   | inr b ↦ let m = flat_has (λ i. events_toward test n p (neighbour g p i)) (directions g) e b in (toward_sites test n p (neighbour g p m.0) e m.2).0

@@ -83,12 +83,16 @@ impl<L: Lattice> World<L> {
         }
     }
 
-    /// The sum of the rates of the enabled events whose first site is this one, in millionths.
+    /// The sum of the rates of the enabled events whose first site is this one, in millionths. No
+    /// event begins at a site outside.
     pub fn weight_at(&self, site: Site) -> u128
-        requires { IsInside self.now.surface.grid site }
         ensures sum { result ≡ weight_of self.now.surface self.now.names site }
+        ensures outside { (IsInside self.now.surface.grid site → ⊥) → result ≡ 0 }
         ensures bound { result ≤ 7 * (1048576 * 1000000000000) }
     {
+        if !self.contains(site) {
+            return 0;
+        }
         let mut sum = self.sum_of(self.rules_at(site));
         for direction in 0..self.grid().degree() {
             sum += self.weight_toward(site, direction);
@@ -108,10 +112,10 @@ impl<L: Lattice> World<L> {
     }
 
     /// The choice of this site at which the running sum of rates first exceeds a number:
-    /// rules at the site alone come first, and then the directions in order.
+    /// rules at the site alone come first, and then the directions in order. Where the number is
+    /// below the site's weight, an event begins there, and so the site is inside.
     pub fn nth_at(&self, site: Site, r: u128) -> Event
-        requires inside { IsInside self.now.surface.grid site }
-        requires below { r < weight_of self.now.surface self.now.names site }
+        requires { r < weight_of self.now.surface self.now.names site }
         ensures { pick (rate_of self.now.surface) (choices_at nat_eq self.now.surface self.now.names site) r ≡ Some result }
     {
         let mut rest = match self.nth_of(self.rules_at(site), site, None, r) {

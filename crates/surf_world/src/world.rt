@@ -117,10 +117,17 @@ impl<L: Lattice> World<L> {
         self.names[place]
     }
 
+    // Whether a site is one of the grid.
+    pub(crate) fn contains(&self, site: Site) -> bool
+        ensures { IsTrue result ↔ IsInside self.now.surface.grid site }
+    {
+        site.x < self.grid.width() && site.y < self.grid.height()
+    }
+
     fn holds(&self, site: Site, name: u32) -> bool
         ensures { IsTrue result ↔ Holds self.now.surface.grid self.now.names site name }
     {
-        site.x < self.grid.width() && site.y < self.grid.height() && self.at(site) == name
+        self.contains(site) && self.at(site) == name
     }
 
     fn fits_second(&self, first: Site, right: Option<u32>, second: Option<Site>) -> bool

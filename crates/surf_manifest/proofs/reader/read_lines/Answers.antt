@@ -1,53 +1,48 @@
 use Rattle.std.proofs.Common.{rules, arith, ◌∙◌, ◌-◌, length}
+use Rattle.surf_manifest.specs.Answers.{Refuses}
+use Rattle.surf_manifest.specs.Grammar.{manifest_of}
 use Rattle.surf_manifest.specs.Readings.{reached_by}
 use Rattle.surf_manifest.proofs.Counts.{room_by}
-use Rattle.surf_manifest.proofs.Runs.{begins, goes_on, ends, refused, counted_start, counted_on, counted_end}
+use Rattle.surf_manifest.proofs.Runs.{begins, after_begins, goes_on, after_goes_on, refused, counted_start, counted_on}
 use Rattle.surf_manifest.proofs.reader.read_lines.Goals as goal
 
-pub loop-rest-init : goal.loop-rest-init
-loop-rest-init c = record {
-  draft = c.new-reading.ensures.draft;
-  within = omega arith;
-  counted = counted_start (reached_by c.new-reading.result) (length c.args.text.now - length c.args.text.now) c.new-reading.ensures.start;
-  read = begins (reached_by c.new-reading.result) c.args.text.now c.new-reading.ensures.start;
-}
+pub loop-line-init : goal.loop-line-init
+loop-line-init c =
+    let s = reached_by c.new-reading.result in
+    rw c.new-lines.ensures (record {
+      draft = c.new-reading.ensures.draft;
+      within = omega arith;
+      counted = counted_start s (length c.args.text.now - length c.args.text.now) c.new-reading.ensures.start;
+      read = begins s c.args.text.now c.new-reading.ensures.start;
+      after = after_begins s c.args.text.now c.new-reading.ensures.start;
+    })
 
-pub returns-in-Err : goal.returns-in-Err
-returns-in-Err c = record {
-  draft = tt;
-  counted = tt;
-  read = tt;
-  refused = refused (reached_by c.loop-rest.reading) c.in-Err.fault c.args.text.now c.loop-rest.rest.now c.first_line.result.0.now c.first_line.result.1.now c.loop-rest.invariant.read c.first_line.ensures.lines c.in-Err.ensures.step;
-}
+pub returns-in_err-read_line-clause-refused : goal.returns-in_err-read_line-clause-refused
+returns-in_err-read_line-clause-refused c =
+    let told : Refuses (manifest_of c.args.text.now) c.in_err-read_line.field-0.0 =
+    refused (reached_by c.loop-line.reading) c.in_err-read_line.field-0.0 c.args.text.now c.loop-line.lines.left c.in-Some.line.now c.next.new.self.left c.loop-line.invariant.read c.in-Some.ensures.line c.in_err-read_line.ensures.step in
+    search rules
 
-pub loop-rest-preserved : goal.loop-rest-preserved
-loop-rest-preserved c =
-    let i = c.loop-rest.invariant in
-    let s = reached_by c.loop-rest.reading in
+pub loop-line-preserved : goal.loop-line-preserved
+loop-line-preserved c =
+    let i = c.loop-line.invariant in
+    let s = reached_by c.loop-line.reading in
     let d = reached_by c.read_line.new.self in
-    let bytes = c.loop-rest.rest.now in
-    let line = c.first_line.result.0.now in
-    let rest = c.first_line.result.1.now in
+    let bytes = c.loop-line.lines.left in
+    let line = c.in-Some.line.now in
+    let rest = c.next.new.self.left in
+    let e = c.in-Some.ensures in
+    let step = c.in_ok-read_line.ensures.step in
     record {
-      draft = c.in-Ok.ensures.draft;
-      within = omega (arith, i.within, c.first_line.ensures.shorter);
-      counted = counted_on (length c.args.text.now) bytes line rest s d i.within c.first_line.ensures.shorter c.first_line.ensures.part i.counted c.in-Ok.ensures.step;
-      read = i.read ∙ goes_on s d bytes line rest c.first_line.ensures.lines c.in-Ok.ensures.step;
-    }
-
-pub returns : goal.returns
-returns c =
-    let i = c.loop-rest.invariant in
-    let s = reached_by c.loop-rest.reading in
-    record {
-      draft = i.draft;
-      counted = counted_end (length c.args.text.now) c.loop-rest.rest.now s c.requires i.counted;
-      read = i.read ∙ ends s c.loop-rest.rest.now (search rules);
-      refused = tt;
+      draft = c.in_ok-read_line.ensures.draft;
+      within = omega (arith, i.within, e.shorter);
+      counted = counted_on (length c.args.text.now) bytes line rest s d i.within e.shorter e.part i.counted step;
+      read = i.read ∙ goes_on s d bytes line rest e.line step;
+      after = i.after ∙ after_goes_on s d bytes line rest e.line step;
     }
 
 pub read_line-requires-clause-room : goal.read_line-requires-clause-room
 read_line-requires-clause-room c =
-    let i = c.loop-rest.invariant in
+    let i = c.loop-line.invariant in
     let all = length c.args.text.now in
-    room_by (all - length c.loop-rest.rest.now) (length c.first_line.result.0.now) (reached_by c.loop-rest.reading) (omega (arith, i.within, c.first_line.ensures.part, c.requires)) i.counted
+    room_by (all - length c.loop-line.lines.left) (length c.in-Some.line.now) (reached_by c.loop-line.reading) (omega (arith, i.within, c.in-Some.ensures.part, c.requires)) i.counted

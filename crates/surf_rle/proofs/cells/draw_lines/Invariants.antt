@@ -4,14 +4,13 @@ use Rattle.surf_rle.specs.Drawings.{IsSheet, rest_of}
 use Rattle.surf_rle.specs.Patterns.{marks_from}
 use Rattle.surf_rle.proofs.cells.draw_lines.Given as goal
 
-abbrev pub invariant-loop-rest : goal.invariant-loop-rest
-invariant-loop-rest l = record {
+abbrev pub invariant-loop-line : goal.invariant-loop-line
+invariant-loop-line l = record {
   sheet : IsSheet l.sheet l.cells;
-  row : l.pen.row + 2 ^ 32 * length l.rest ≤ 2 ^ 32 * length l.text;
-  column : l.pen.column + 2 ^ 32 * length l.rest ≤ 2 ^ 32 * length l.text;
-  counted : l.number + length l.rest ≤ l.initial.number + length l.text;
-  read : rest_of l.sheet (record { row = 0; column = 0 }) l.initial.cells (marks_from l.initial.number (lines_of l.text)) ≡ rest_of l.sheet l.pen l.cells (marks_from l.number (lines_of l.rest));
+  row : l.pen.row + 2 ^ 32 * length l.lines.left ≤ 2 ^ 32 * length l.initial.lines.left;
+  column : l.pen.column + 2 ^ 32 * length l.lines.left ≤ 2 ^ 32 * length l.initial.lines.left;
+  read : rest_of l.sheet (record { row = 0; column = 0 }) l.initial.cells (marks_from (l.initial.lines.number + 1) (lines_of l.initial.lines.left)) ≡ rest_of l.sheet l.pen l.cells (marks_from (l.lines.number + 1) (lines_of l.lines.left));
 }
 
-abbrev pub decreases-loop-rest : goal.decreases-loop-rest
-decreases-loop-rest l = length l.rest
+abbrev pub decreases-loop-line : goal.decreases-loop-line
+decreases-loop-line l = length l.lines.left

@@ -11,6 +11,7 @@ loop-direction-preserved g c =
       set = around_more w.surface w.names c.args.site c.loop-direction.direction _ _ _ c.loop-direction.invariant.set (search rules);
       weights = c.refresh_some.ensures.weights;
       sets = sets_more w.surface.grid _ c.args.site c.loop-direction.direction _ _ _ _ c.grid-in-loop-direction.ensures c.neighbour.ensures c.loop-direction.invariant.sets c.refresh_some.ensures.sets;
+      counted = omega (arith, c.loop-direction.invariant.counted, c.refresh_some.ensures.counted);
     }
 
 pub returns-clause-right : goal.returns-clause-right

@@ -13,6 +13,7 @@ loop-direction-preserved g c =
       weights = c.refresh_new_some.ensures.weights;
       right = c.refresh_new_some.ensures.right;
       sets = news_more w.surface.grid _ (is_new w.surface.grid c.args.first) c.args.second c.loop-direction.direction _ _ _ _ c.grid-in-loop-direction.ensures c.neighbour.ensures c.loop-direction.invariant.sets c.refresh_new_some.ensures.sets;
+      counted = omega (arith, c.loop-direction.invariant.counted, c.refresh_new_some.ensures.counted);
     }
 
 pub returns-clause-sets : goal.returns-clause-sets

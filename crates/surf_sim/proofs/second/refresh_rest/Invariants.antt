@@ -12,4 +12,5 @@ invariant-loop-direction g l = record {
   weights : AreWeights l.world.surface.grid (g.P.Picker.weights l.picker);
   right : AreRight l.world.surface l.world.names (around l.world.surface.grid l.first) (g.P.Picker.weights l.picker);
   sets : g.P.Picker.sets l.picker ≤ g.P.Picker.sets l.fn.picker + length (filter (is_new l.world.surface.grid l.first) (l.second ∷ filter_map (neighbour l.world.surface.grid l.second) (range_with_len 0 l.direction)));
+  counted : g.P.Picker.sets l.fn.picker ≤ g.P.Picker.sets l.picker;
 }

@@ -1,4 +1,4 @@
-use Rattle.surf_top.proofs.Emitting.{after_flush}
+use Rattle.surf_base.proofs.EmitLemmas.{after_flush}
 use Rattle.surf_top.proofs.reasons.put_last.Goals as goal
 
 pub returns-in-Ok-clause-emits : goal.returns-in-Ok-clause-emits

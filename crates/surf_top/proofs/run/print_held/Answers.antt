@@ -1,6 +1,6 @@
 use Rattle.std.proofs.Common.{◌<◌, length, All, sym, ◌∙◌, subst}
 use Rattle.surf_base.specs.declared.outside.WriteFault.{WriteFault}
-use Rattle.surf_base.specs.Emits.{Emits}
+use Rattle.surf_base.specs.Emits.{Emits, outlet}
 use Rattle.surf_base.proofs.EmitLemmas.{after_whole, cut_first}
 use Rattle.surf_rules.specs.Names.{text_of}
 use Rattle.surf_pick.specs.Draws.{words_of}
@@ -21,7 +21,7 @@ returns-in-Ok g c =
     let w = c.args.sim.now.placed in
     let es = placed_events w (words_of c.args.sim.now.generator) c.args.count in
     after_whole _ _ _ _ _ _ _ _ _ (trace_text es) (end_text (text_of c.args.names.now) (left_world w es)) _ c.in-Ok.ensures.emits.whole c.print_trace.ensures.emits.later
-    (subst (λ (v : Placed). Emits {T = Unit {0}} {E = WriteFault} (g.K.Sink.written c.print_trace.new.out) (g.K.Sink.written c.print_end.new.out) c.print_trace.new.outbox c.print_end.new.outbox (g.K.Sink.faults c.print_trace.new.out) (g.K.Sink.faults c.print_end.new.out) (end_text (text_of c.args.names.now) v) c.print_end.result)
+    (subst (λ (v : Placed). Emits {T = Unit {0}} {E = WriteFault} (outlet (g.K.Sink.written c.print_trace.new.out) c.print_trace.new.outbox (g.K.Sink.faults c.print_trace.new.out)) (outlet (g.K.Sink.written c.print_end.new.out) c.print_end.new.outbox (g.K.Sink.faults c.print_end.new.out)) (end_text (text_of c.args.names.now) v) c.print_end.result)
     (c.world.ensures ∙ c.in-Ok.ensures.world) c.print_end.ensures)
 
 pub returns-in-Err : goal.returns-in-Err

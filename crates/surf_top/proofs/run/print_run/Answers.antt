@@ -1,7 +1,8 @@
 use Rattle.surf_rules.specs.Names.{text_of}
 use Rattle.surf_pick.specs.Draws.{words_of}
 use Rattle.surf_top.specs.Prints.{placed_text}
-use Rattle.surf_top.proofs.Emitting.{after_flush, wrote_all, wrote_front, front_alone}
+use Rattle.surf_base.proofs.EmitLemmas.{after_flush, wrote_all, wrote_front}
+use Rattle.surf_top.proofs.Emitting.{front_alone}
 use Rattle.surf_top.proofs.run.print_run.Goals as goal
 
 pub returns-in-Ok-clause-whole : goal.returns-in-Ok-clause-whole
@@ -19,4 +20,4 @@ returns-in-Ok-clause-front g c =
 pub returns-in-Err-clause-front : goal.returns-in-Err-clause-front
 returns-in-Err-clause-front g c =
     let text = placed_text (text_of c.args.names.now) c.args.sim.now.placed (words_of c.args.sim.now.generator) c.args.count in
-    front_alone _ _ _ text c.new-outbox.ensures c.in-Err.ensures.front
+    front_alone _ _ _ _ text c.new-outbox.ensures c.in-Err.ensures.cut

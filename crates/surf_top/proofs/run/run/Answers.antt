@@ -11,4 +11,4 @@ returns-in-Ok-print_run-clause-ends g c =
 pub returns-clause-ends : goal.returns-clause-ends
 returns-clause-ends g c =
     cut_ends c.args.input.items c.in-Ok.manifest.text c.args.seed c.args.count c.in-Some.sim c.in-Some.names
-    (ap manifest_of (sym c.deref.ensures.value) ∙ c.in-Ok.ensures.ok) c.in-Some.ensures _ _ _ _ c.in-Err-print_run.ensures.cause.failed c.in-Err-print_run.ensures.front
+    (ap manifest_of (sym c.deref.ensures.value) ∙ c.in-Ok.ensures.ok) c.in-Some.ensures _ _ _ _ c.in-Err-print_run.ensures.cause c.in-Err-print_run.ensures.front

@@ -22,8 +22,8 @@ loop-direction-preserved g c =
       few = few_more _ _ c.neighbour.result c.push_some.ensures.items d c.loop-direction.invariant.few;
     }
 
-pub returns : goal.returns
-returns g c =
+pub returns-clause-inside : goal.returns-clause-inside
+returns-clause-inside g c inside =
     let grid = g.Self.Lattice.grid c.args.self.now in
     let ended : c.loop-direction.direction ≡ degree grid.kind = search rules in
     c.loop-direction.invariant.so_far ∙ ap (λ n. filter_map (neighbour grid c.args.site) (range_with_len 0 n)) ended

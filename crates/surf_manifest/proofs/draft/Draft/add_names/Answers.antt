@@ -1,7 +1,7 @@
 use Rattle.std.proofs.Common.{rules, ap, sym, ◌∙◌, arith, ◌≡◌, ◌+◌, length, [], ◌∷◌, true}
 use Rattle.std.specs.List.{list_all}
 use Rattle.surf_text.specs.Bytes.{tokens_of}
-use Rattle.surf_manifest.specs.Drafts.{held_by}
+use Rattle.surf_manifest.specs.Drafts.{IsDraft, held_by}
 use Rattle.surf_manifest.specs.Item.{is_name}
 use Rattle.surf_manifest.specs.Limits.{with_names}
 use Rattle.surf_manifest.proofs.LimitLemmas.{names_more}
@@ -14,11 +14,13 @@ loop-token-preserved c =
     let t = c.in-Some.token.now in
     let ts = tokens_of c.in-Some.after.now in
     let more : tokens_of c.loop-token.rest.now ≡ t ∷ ts = c.in-Some.ensures.some in
-    let counted : c.add_site.new.self.site_count ≡ c.loop-token.self.site_count + 1 = ap (λ h. h.site_count) c.in-Ok.ensures.held in
+    let draft : IsDraft c.add_site.new.self = search rules in
+    let held : held_by c.add_site.new.self ≡ with_names (held_by c.loop-token.self) (t ∷ []) = search rules in
+    let counted : c.add_site.new.self.site_count ≡ c.loop-token.self.site_count + 1 = ap (λ h. h.site_count) held in
     let good : is_name t ≡ true = search rules in
     record {
-      draft = c.in-Ok.ensures.draft;
-      held = ap (λ h. with_names h ts) c.in-Ok.ensures.held ∙ (names_more (held_by c.loop-token.self) t ts ∙ (ap (λ v. with_names (held_by c.loop-token.self) v) (sym more) ∙ i.held));
+      draft = draft;
+      held = ap (λ h. with_names h ts) held ∙ (names_more (held_by c.loop-token.self) t ts ∙ (ap (λ v. with_names (held_by c.loop-token.self) v) (sym more) ∙ i.held));
       names = sym (row_goes_on t ts good) ∙ (ap (λ v. list_all is_name v) (sym more) ∙ i.names);
       count = omega (arith, i.count, ap length more);
       within = omega (arith, i.within, c.in-Some.ensures.shorter);

@@ -12,5 +12,5 @@ take-requires-clause-room c =
 
 pub overflow_add-self : goal.overflow_add-self
 overflow_add-self c =
-    let e : c.take.new.self.number + 1 ≡ c.args.self.now.number + 1 = number_more (reached_by c.args.self.now) (counted (reached_by c.take.new.self)) (line_of_kind c.kind_of.result) c.in-Ok.ensures.step in
+    let e : c.take.new.self.number + 1 ≡ c.args.self.now.number + 1 = number_more (reached_by c.args.self.now) (counted (reached_by c.take.new.self)) (line_of_kind c.kind_of.result) c.in_ok-take.ensures.step in
     omega (arith, e, c.requires.number)

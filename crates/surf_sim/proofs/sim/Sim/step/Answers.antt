@@ -21,8 +21,8 @@ returns-then-total-eq0-clause-stuck g c =
     let none = none_is w _ _ c.self.invariant.0 c.total-total.ensures c.if-total-eq0.true in
     subst (λ (m : Simulation). Stuck m.placed.surface m.placed.names) c.self.view_is (stuck_from_none w.surface w.names none)
 
-pub nth_at-event-requires-clause-below : goal.nth_at-event-requires-clause-below
-nth_at-event-requires-clause-below g c = rest_below c.self.inside.world _ _ c.find-place.result.0 c.find-place.result.1 c.site_at-site.result c.self.invariant.0 c.find-place.ensures c.site_at-site.ensures.listed
+pub nth_at-event-requires : goal.nth_at-event-requires
+nth_at-event-requires g c = rest_below c.self.inside.world _ _ c.find-place.result.0 c.find-place.result.1 c.site_at-site.result c.self.invariant.0 c.find-place.ensures c.site_at-site.ensures.listed
 
 pub apply-requires : goal.apply-requires
 apply-requires g c = chosen_enabled c.self.inside.world.surface c.self.inside.world.names c.site_at-site.result c.find-place.result.1 c.nth_at-event.result c.nth_at-event.ensures

@@ -1,9 +1,16 @@
-use Rattle.std.proofs.Common.{arith, ℕ, nat_eq, length, ◌≡◌, ◌≤◌, ap, ◌∙◌, None}
+use Rattle.std.proofs.Common.{rules, sym, arith, ℕ, nat_eq, length, ◌≡◌, ◌≤◌, ap, ◌∙◌, None}
 use Rattle.surf_lattice.specs.Grids.{Grid, neighbour, degree}
 use Rattle.surf_world.specs.Choices.{enabled_test, events_on, events_toward}
 use Rattle.surf_world.specs.Picks.{rate_of}
 use Rattle.surf_world.proofs.Sums.{alone_sum, directions_sum, whole_sum, degree_small}
+use Rattle.surf_lattice.specs.Grids.{IsInside}
+use Rattle.surf_world.proofs.Outside.{weight_outside}
 use Rattle.surf_world.proofs.world.World.weight_at.Goals as goal
+
+pub returns-then-not-contains-clause-sum : goal.returns-then-not-contains-clause-sum
+returns-then-not-contains-clause-sum g c =
+    let outside : IsInside c.args.self.now.surface.grid c.args.site → ⊥ = search rules in
+    sym (weight_outside c.args.self.now.surface c.args.self.now.names c.args.site outside)
 
 pub overflow_add-sum : goal.overflow_add-sum
 overflow_add-sum g c =
