@@ -1,9 +1,9 @@
 -- The names of a colony as texts.
-use Rattle.std.specs.Prelude.{ℕ, ◌^◌, ◌<◌, Bool, false, if◌then◌else◌, ◌==◌, nat_lt, List, [], ◌∷◌, ◌++◌, codes, Option, Some, None}
+use Rattle.std.specs.Prelude.{ℕ, ◌^◌, ◌<◌, Bool, false, if◌then◌else◌, ◌==◌, List, [], ◌∷◌, ◌++◌, codes, Option, Some, None}
 use Rattle.std.specs.Fmt.{decimal}
 use Rattle.std.specs.Option.{option_map}
 use Rattle.std.specs.Str.{bytes_eq}
-use Rattle.surf_base.specs.Decimal.{decimal_of}
+use Rattle.surf_base.specs.Decimal.{decimal_below}
 use Rattle.surf_text.specs.Bytes.{before, after}
 use Rattle.surf_sync.specs.declared.code.Code.{Code}
 use Rattle.surf_sync.specs.Codes.{Mark}
@@ -21,13 +21,9 @@ is_padded [] = false
 is_padded (b ∷ []) = false
 is_padded (b ∷ c ∷ bs) = b == 48
 
-abbrev pub if_short : Option ℕ → Option ℕ
-if_short None = None
-if_short (Some n) = if nat_lt n (2 ^ 32) then Some n else None
-
 -- the number below 2^32 that a decimal without leading zeros spells
 abbrev pub number_of : List ℕ → Option ℕ
-number_of t = if is_padded t then None else if_short (decimal_of t)
+number_of t = if is_padded t then None else decimal_below (2 ^ 32) t
 
 -- a number, and the text behind the '_' that follows it, if one does
 pub record Part : Type 0 where

@@ -6,7 +6,7 @@ ghost use Rattle.surf_sync.specs.Parts.{part_by};
 ghost use Rattle.surf_sync.specs.Spelling.{code_in, frame_in, number_of, part_behind, part_of, spell};
 
 use std::alloc::Global;
-use surf_base::{NoMemory, read_decimal};
+use surf_base::{NoMemory, read_below};
 use surf_text::cut;
 
 /// The name of a cell: its state, the generation field, the colour of its site, its state one
@@ -35,11 +35,7 @@ fn read_number(text: &[u8]) -> Option<u32>
     if text.len() > 1 && text[0] == b'0' {
         return None;
     }
-    let number = read_decimal(text)?;
-    if number > u64::from(u32::MAX) {
-        return None;
-    }
-    Some(number as u32)
+    read_below(1 << 32, text)
 }
 
 fn read_part(text: &[u8]) -> Option<Part<'_>>
