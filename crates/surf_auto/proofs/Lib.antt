@@ -1,6 +1,6 @@
 mod Gathering
 mod Rules
 mod Ranges
-mod Cells
-mod Phases
+pub mod Cells
+pub mod Phases
 mod Places

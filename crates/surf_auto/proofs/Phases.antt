@@ -186,6 +186,7 @@ same_phase k n j = let z : k * n + j ≡ j + n * k = omega arith in ap (λ v. v 
 is_universe_at : (U : Universe) → IsUniverse U → (k : ℕ) → IsUniverse (after_phases U (k * U.rule.phases))
 is_universe_at U is k = record {
   is_grid = is.is_grid;
+  coloured = is.coloured;
   is_local = is.is_local;
   same_degree = is.same_degree;
   one_per_site = sites_length U.grid (sync U k);

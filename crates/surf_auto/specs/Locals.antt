@@ -60,13 +60,17 @@ place_count R f = sum_below (R.accs f) R.degree
 abbrev pub code_count : LocalRule → ℕ → ℕ
 code_count R f = R.states f * R.states (preceding R.phases f) * place_count R f
 
--- a reader has one of three generations and one of the colours
-abbrev pub reader_count : LocalRule → ℕ → ℕ
-reader_count R f = 3 * suc R.degree * code_count R f
+-- a reader has one of so many generations and one of the colours
+abbrev pub reader_count : ℕ → LocalRule → ℕ → ℕ
+reader_count turns R f = turns * suc R.degree * code_count R f
 
 -- it sees the frame, a cell of its generation or one of the next
 abbrev pub sight_count : LocalRule → ℕ → ℕ
 sight_count R f = 1 + code_count R f + code_count R (following R.phases f)
 
+abbrev pub rule_count_in : ℕ → LocalRule → ℕ
+rule_count_in turns R = sum_below (λ f. reader_count turns R f * sight_count R f) R.phases
+
+-- three generations of a phase are told apart where no last one is stated
 abbrev pub rule_count : LocalRule → ℕ
-rule_count R = sum_below (λ f. reader_count R f * sight_count R f) R.phases
+rule_count R = rule_count_in 3 R

@@ -1,11 +1,11 @@
 -- What all cells of an automaton show after so many steps, which all take at once.
-use Rattle.std.specs.Prelude.{◌≡◌, ℕ, zero, suc, ◌*◌, ◌%◌, ◌<◌, ◌≤◌, List, map, length, slice_index, false, Option, Some, None}
+use Rattle.std.specs.Prelude.{◌≡◌, ℕ, zero, suc, ◌*◌, ◌%◌, ◌<◌, ◌≤◌, List, map, length, slice_index, Bool, true, false, Option, Some, None}
 use Rattle.surf_lattice.specs.declared.site.Site.{Site}
 use Rattle.surf_lattice.specs.declared.site.GridKind.{GridKind}
-use Rattle.surf_lattice.specs.Grids.{Grid, IsGrid, degree, directions, neighbour, place}
+use Rattle.surf_lattice.specs.Grids.{Grid, IsGrid, degree, directions, is_coloured, neighbour, place}
 use Rattle.surf_auto.specs.Locals.{LocalRule, IsLocal, gathered}
 
--- the cells of a grid in row-major order; all beyond the grid keeps the edge state
+-- the cells of a grid in row-major order; all beyond the grid keeps the edge state, and nothing lies beyond a grid whose sides are joined
 pub record Universe : Type 0 where
   pub grid : Grid
   pub rule : LocalRule
@@ -15,12 +15,17 @@ pub record Universe : Type 0 where
 abbrev pub universe : Grid → LocalRule → ℕ → List ℕ → Universe
 universe grid rule edge cells = record { grid = grid; rule = rule; edge = edge; cells = cells }
 
--- the grid of a box, whose sides are not joined
+-- the grid of a box, whose sides may be joined
+abbrev pub box_of : GridKind → Bool → ℕ → ℕ → Grid
+box_of kind wrap width height = record { kind = kind; wrap = wrap; width = width; height = height }
+
 abbrev pub plain : GridKind → ℕ → ℕ → Grid
-plain kind width height = record { kind = kind; wrap = false; width = width; height = height }
+plain kind width height = box_of kind false width height
 
 pub record IsUniverse (U : Universe) : Type 0 where
   pub is_grid : IsGrid U.grid
+  -- joined sides are multiples of the number of colours, 5 or 7
+  pub coloured : is_coloured U.grid ≡ true
   pub is_local : IsLocal U.rule
   pub same_degree : U.rule.degree ≡ degree U.grid.kind
   pub one_per_site : length U.cells ≡ U.grid.width * U.grid.height

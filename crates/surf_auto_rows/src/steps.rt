@@ -37,6 +37,7 @@ fn board(
     }
     Ok(Automaton {
         kind,
+        wrap: false,
         width,
         height,
         edge,
@@ -119,6 +120,7 @@ fn excitable(alloc: Global) -> Result<Automaton<TableLocal>, Fail> {
     let cells = vec![in alloc; 0, 0, 0, 0, 1, 0, 0, 2, 0]?;
     Ok(Automaton {
         kind: GridKind::Square,
+        wrap: false,
         width: 3,
         height: 3,
         edge: 2,

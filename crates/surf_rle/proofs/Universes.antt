@@ -1,5 +1,5 @@
 -- The cells that are read, and the universe that they make.
-use Rattle.std.proofs.Common.{ℕ, zero, ◌≡◌, ◌+◌, ◌*◌, ◌<◌, ◌≤◌, Bool, true, false, if◌then◌else◌, List, [], ◌∷◌, length, map, replicate, slice_index, Option, Some, None, Ok, Err, sym, ◌∙◌, ap, subst, arith, inl, inr, ◌||◌, ◌==◌, nat_lt, suc}
+use Rattle.std.proofs.Common.{ℕ, zero, ◌≡◌, ◌+◌, ◌*◌, ◌<◌, ◌≤◌, Bool, true, false, if◌then◌else◌, List, [], ◌∷◌, length, map, replicate, slice_index, Option, Some, None, Ok, Err, refl, sym, ◌∙◌, ap, subst, arith, inl, inr, ◌||◌, ◌==◌, nat_lt, suc}
 use Rattle.std.specs.List.{list_any}
 use Rattle.std.proofs.lemmas.Bool.{cases_Bool, eqb-false, ltb-false, or_parts}
 use Rattle.std.proofs.lemmas.List.{length-map}
@@ -79,6 +79,7 @@ is_universe kind margin width height w h C cells ms box read local same at_w at_
     ap length (sym is) ∙ length-map (sites g) (cell_at margin ps) ∙ length-map-range_with_len (site_at g) 0 (g.width * g.height) in
     record {
       is_grid = record { wide = omega (arith, f.wide); high = omega (arith, f.high); joined = λ no. cc };
+      coloured = refl;
       is_local = local;
       same_degree = same;
       one_per_site = rw (at_w, at_h) sized;

@@ -8,7 +8,7 @@ use Rattle.surf_auto.specs.Counts.{Counts, count_rule}
 use Rattle.surf_auto.specs.Lines.{is_comment}
 use Rattle.surf_auto.specs.Sync.{Universe, plain, universe}
 use Rattle.surf_auto.specs.declared.error.SourceError.{SourceError}
-use Rattle.surf_auto.specs.declared.error.SourceError.TheVariants.{BadHeader, RuleForm, Moore, EmptyGrid, GridTooLarge, BadItem, OutOfBox, BadTable, Unclosed, TooManyRules, NoMemory}
+use Rattle.surf_auto.specs.declared.error.SourceError.TheVariants.{BadHeader, RuleForm, Moore, TorusSize, EmptyGrid, GridTooLarge, BadItem, OutOfBox, BadTable, Unclosed, TooManyRules, NoMemory}
 use Rattle.surf_rle.specs.Headers.{Header, header_of}
 use Rattle.surf_rle.specs.RuleTexts.{RuleText, rule_of, counts_on}
 use Rattle.surf_rle.specs.Patterns.{unless, marks_from, cells_read}
@@ -73,6 +73,7 @@ abbrev pub Refuses : {X : Type 0} → Result X SourceError → SourceError → T
 Refuses r (BadHeader n) = r ≡ Err (BadHeader n)
 Refuses r (RuleForm n) = r ≡ Err (RuleForm n)
 Refuses r (Moore n) = r ≡ Err (Moore n)
+Refuses r (TorusSize n) = r ≡ Err (TorusSize n)
 Refuses r EmptyGrid = r ≡ Err EmptyGrid
 Refuses r (GridTooLarge n) = r ≡ Err (GridTooLarge n)
 Refuses r (BadItem n) = r ≡ Err (BadItem n)

@@ -3,7 +3,7 @@ ghost use Rattle.std.specs.Prelude.{◌≡◌, ◌≤◌, IfErr, IfOk, Ok, Some,
 ghost use Rattle.surf_auto.specs.Counts.{count_rule};
 ghost use Rattle.surf_auto.specs.Lines.{is_table};
 ghost use Rattle.surf_auto.specs.Locals.{rule_count};
-ghost use Rattle.surf_auto.specs.Sync.{plain, universe};
+ghost use Rattle.surf_auto.specs.Sync.{box_of, universe};
 ghost use Rattle.surf_rle.specs.Rle.{Refuses, box_read, if_header, rle_of};
 ghost use Rattle.surf_rle.specs.RuleTexts.{counts_on};
 ghost use Rattle.surf_rle.specs.Said.{header_by, rule_by};
@@ -31,7 +31,7 @@ fn read_box(
     ensures ok { IfOk result
         (λ a. box_read sheet.margin lines.old.number sheet.kind
         (counts_on sheet.kind (rule_by rule.now)) sheet.width sheet.height (lines_of lines.old.left)
-        ≡ Ok (universe (plain a.kind a.width a.height) (count_rule a.local) a.edge a.cells.items)) }
+        ≡ Ok (universe (box_of a.kind a.wrap a.width a.height) (count_rule a.local) a.edge a.cells.items)) }
     ensures refused { IfErr result
         (λ f. Refuses (box_read sheet.margin lines.old.number sheet.kind
         (counts_on sheet.kind (rule_by rule.now)) sheet.width sheet.height
@@ -49,6 +49,7 @@ fn read_box(
     let _ = local.degree();
     Ok(Automaton {
         kind: sheet.kind,
+        wrap: false,
         width: sheet.full_width() as u32,
         height: sheet.full_height() as u32,
         edge: 0,
@@ -69,7 +70,7 @@ fn read_pattern(
     ensures ok { IfOk result
         (λ a. if_header margin lines.old.number (Some (header_by header.now))
         (lines_of lines.old.left)
-        ≡ Ok (universe (plain a.kind a.width a.height) (count_rule a.local) a.edge a.cells.items)) }
+        ≡ Ok (universe (box_of a.kind a.wrap a.width a.height) (count_rule a.local) a.edge a.cells.items)) }
     ensures refused { IfErr result
         (λ f. Refuses (if_header margin lines.old.number (Some (header_by header.now))
         (lines_of lines.old.left)) f) }
@@ -106,7 +107,7 @@ pub fn read_rle(
     requires within { length bytes.now ≤ 2147483648 }
     ensures ok { IfOk result
         (λ a. rle_of margin bytes.now
-        ≡ Ok (universe (plain a.kind a.width a.height) (count_rule a.local) a.edge a.cells.items)) }
+        ≡ Ok (universe (box_of a.kind a.wrap a.width a.height) (count_rule a.local) a.edge a.cells.items)) }
     ensures refused { IfErr result (λ f. Refuses (rle_of margin bytes.now) f) }
     ensures few { IfOk result (λ a. rule_count (count_rule a.local) ≤ 1048576) }
 {

@@ -2,7 +2,7 @@
 ghost use Rattle.std.specs.Prelude.{◌≡◌, ◌≤◌, ◌+◌, ◌*◌, IfErr, IfOk, Ok, length, true};
 ghost use Rattle.surf_auto.specs.Lines.{is_table};
 ghost use Rattle.surf_auto.specs.Locals.{rule_count};
-ghost use Rattle.surf_auto.specs.Sync.{plain, universe};
+ghost use Rattle.surf_auto.specs.Sync.{box_of, universe};
 ghost use Rattle.surf_auto.specs.Tables.{table_rule};
 ghost use Rattle.surf_table.specs.Parts.{AreCells, IsHead, IsNext, IsSize};
 ghost use Rattle.surf_table.specs.Readings.{head_by};
@@ -29,7 +29,7 @@ fn automaton(
     requires size { IsSize margin (size.0, size.1) }
     requires cells { AreCells margin (head_by header) (size.0, size.1) cells.items }
     ensures few_rules { rule_count (table_rule result.local) ≤ 1048576 }
-    ensures universe { universe (plain result.kind result.width result.height)
+    ensures universe { universe (box_of result.kind result.wrap result.width result.height)
         (table_rule result.local) result.edge result.cells.items
         ≡ automaton_of margin (head_by header) next.items (size.0, size.1) cells.items }
 {
@@ -41,6 +41,7 @@ fn automaton(
     };
     Automaton {
         kind,
+        wrap: false,
         width: size.0 + 2 * margin,
         height: size.1 + 2 * margin,
         edge: header.edge,
@@ -63,7 +64,7 @@ pub fn read_table(
     requires few_bytes { length bytes.now ≤ 2147483648 }
     ensures ok { IfOk result
         (λ a. table_of margin bytes.now
-        ≡ Ok (universe (plain a.kind a.width a.height) (table_rule a.local) a.edge a.cells.items)) }
+        ≡ Ok (universe (box_of a.kind a.wrap a.width a.height) (table_rule a.local) a.edge a.cells.items)) }
     ensures refused { IfErr result (λ f. Refuses (table_of margin bytes.now) f) }
     ensures few_rules { IfOk result (λ a. rule_count (table_rule a.local) ≤ 1048576) }
 {

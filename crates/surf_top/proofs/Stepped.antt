@@ -29,6 +29,7 @@ refused_ends : (times : ℕ) (input : List ℕ) (e : SourceError) (w : Writes) �
 refused_ends times input (sources.BadHeader n) w kept is = ap (printed_generation times) (is (λ e. cc))
 refused_ends times input (sources.RuleForm n) w kept is = ap (printed_generation times) (is (λ e. cc))
 refused_ends times input (sources.Moore n) w kept is = ap (printed_generation times) (is (λ e. cc))
+refused_ends times input (sources.TorusSize n) w kept is = ap (printed_generation times) (is (λ e. cc))
 refused_ends times input sources.EmptyGrid w kept is = ap (printed_generation times) (is (λ e. cc))
 refused_ends times input (sources.GridTooLarge n) w kept is = ap (printed_generation times) (is (λ e. cc))
 refused_ends times input (sources.BadItem n) w kept is = ap (printed_generation times) (is (λ e. cc))
@@ -42,6 +43,7 @@ pattern_told : {X : Type 0} (r : Result X SourceError) (e : SourceError) → rle
 pattern_told r (sources.BadHeader n) h some = h
 pattern_told r (sources.RuleForm n) h some = h
 pattern_told r (sources.Moore n) h some = h
+pattern_told r (sources.TorusSize n) h some = h
 pattern_told r sources.EmptyGrid h some = h
 pattern_told r (sources.GridTooLarge n) h some = h
 pattern_told r (sources.BadItem n) h some = h
@@ -55,6 +57,7 @@ table_told : {X : Type 0} (r : Result X SourceError) (e : SourceError) → table
 table_told r (sources.BadHeader n) h some = absurd h
 table_told r (sources.RuleForm n) h some = absurd h
 table_told r (sources.Moore n) h some = absurd h
+table_told r (sources.TorusSize n) h some = absurd h
 table_told r sources.EmptyGrid h some = h
 table_told r (sources.GridTooLarge n) h some = h
 table_told r (sources.BadItem n) h some = absurd h

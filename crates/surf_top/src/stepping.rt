@@ -1,7 +1,7 @@
 // The command `step`.
 ghost use Rattle.std.specs.Prelude.{◌≡◌, ◌≤◌, ◌<◌, ◌*◌, ℕ, List, true, false, Ok, length, map};
 ghost use Rattle.std.specs.Fmt.{decimal};
-ghost use Rattle.surf_auto.specs.Sync.{plain, universe};
+ghost use Rattle.surf_auto.specs.Sync.{box_of, universe};
 ghost use Rattle.surf_auto.specs.Lines.{is_table};
 ghost use Rattle.surf_text.specs.Bytes.{ended, rows_of, spaced};
 ghost use Rattle.surf_top.specs.Answers.{IsQuiet};
@@ -45,7 +45,7 @@ fn show<L: Local + Drop, K: Sink>(
     times: u32,
     out: &mut K,
 ) -> Status
-    ensures ends { let grid = plain automaton.kind automaton.width automaton.height in
+    ensures ends { let grid = box_of automaton.kind automaton.wrap automaton.width automaton.height in
         let U = universe grid (L.rule automaton.local) automaton.edge automaton.cells.items in
         (input : List ℕ) → source_of 0 input ≡ Ok U
         → EndsJob (Step times) input (writes K.written K.faults out.old out.new) result }

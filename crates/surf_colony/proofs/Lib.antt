@@ -1,0 +1,15 @@
+mod Plans
+mod Codes
+mod Saw
+mod Ranges
+mod Events
+mod Places
+mod Synchrony
+mod Pace
+mod Runs
+mod Boards
+mod Built
+mod Texts
+mod Observed
+mod Printed
+mod Starts

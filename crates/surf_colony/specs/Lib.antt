@@ -1,0 +1,4 @@
+pub mod Generations
+pub mod Colonies
+pub mod InStep
+pub mod Numbers

@@ -1,0 +1,11 @@
+//! Colonies: automata as manifests of a surface on which the cells keep in step without a clock.
+//!
+//! [`compile_automaton`] answers the colony of an automaton, in every run of which a cell of
+//! generation k shows the synchronous state of k; [`compile_last`] one whose runs end at a stated
+//! generation. It stands on the names and rules of `surf_sync` and on `Manifest::assemble`.
+#![tactic(auto)]
+
+mod laws;
+mod start;
+
+pub use laws::keeps_in_step;

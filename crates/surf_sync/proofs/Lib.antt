@@ -1,0 +1,15 @@
+pub mod Numbers
+pub mod Sights
+pub mod Members
+pub mod Listed
+pub mod AfterReads
+pub mod Numbered
+pub mod Spelling
+pub mod Loops
+pub mod Growing
+pub mod Moved
+pub mod Few
+pub mod Said
+pub mod Placed
+pub mod Blocks
+pub mod Rows

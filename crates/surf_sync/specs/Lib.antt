@@ -1,0 +1,10 @@
+pub mod Codes
+pub mod Rules
+pub mod Numbering
+pub mod Spelling
+pub mod Parts
+pub mod Shapes
+pub mod Listing
+pub mod Moved
+pub mod Tables
+pub mod Phases
