@@ -4,9 +4,9 @@ ghost use Rattle.surf_top.specs.Commands.{answer_to, answer_to_bits, answer_to_b
 use surf_auto::SourceError;
 use surf_base::WriteFault;
 use surf_blif::BlifError;
-use surf_logic::EvalError;
 use surf_circuit::SetError;
 use surf_lattice::Site;
+use surf_logic::EvalError;
 use surf_manifest::ManifestError;
 use surf_manifest_print::LegendError;
 use surf_trace::TraceError;

@@ -34,9 +34,9 @@ loop-place-preserved g c =
     let few = (grown_by old new c.deref.result.now c.in_ok-number.ensures.grown).most in
     record {
       start = name_push new c.loop-place.start.items (λ q. spell (first_mark U (site_at G q))) p c.in_ok-number.number c.push.new.out.items
-      (name_kept old new kept c.loop-place.start.items (map (λ q. spell (first_mark U (site_at G q))) (below p)) c.loop-place.invariant.start)
-      (c.in_ok-number.ensures.found ∙ ap Some (text ∙ ap (λ t. spell (first_mark U t)) (starts.site_of_place G c.width-width.result p c.width-width.ensures.side)))
-      c.in_ok-push.ensures;
+          (name_kept old new kept c.loop-place.start.items (map (λ q. spell (first_mark U (site_at G q))) (below p)) c.loop-place.invariant.start)
+          (c.in_ok-number.ensures.found ∙ ap Some (text ∙ ap (λ t. spell (first_mark U t)) (starts.site_of_place G c.width-width.result p c.width-width.ensures.side)))
+          c.in_ok-push.ensures;
       texts = subst (λ ns. list_all is_name ns ≡ true) (sym c.in_ok-number.ensures.grown) (texts_with old c.deref.result.now c.loop-place.invariant.texts (subst (λ t. is_name t ≡ true) (sym text) (starts.first_name U a.stands s)));
       few = omega (arith, c.loop-place.invariant.few, few);
       keeps = keeps_then c.args.names.now old new c.loop-place.invariant.keeps kept;
