@@ -15,7 +15,8 @@ fn state_seen<G: Lattice>(grid: &G, edge: u32, cells: &[u32], site: Site, direct
     requires few { length cells.now ≤ 1000000 }
     requires inside { IsInside (G.grid grid.now) site }
     requires direction { direction < degree (G.grid grid.now).kind }
-    ensures { result ≡ seen_at edge (λ s. slice_index cells.now (place (G.grid grid.now) s)) (neighbour (G.grid grid.now) site direction) }
+    ensures { result ≡ seen_at edge (λ s. slice_index cells.now (place (G.grid grid.now) s))
+        (neighbour (G.grid grid.now) site direction) }
 {
     match grid.neighbour(site, direction) {
         Some(next) => cells[next.y as usize * grid.width() as usize + next.x as usize],
@@ -32,7 +33,8 @@ fn gather<G: Lattice, L: Local>(
     cells: &[u32],
     site: Site,
 ) -> u32
-    requires stands { StandsIn (universe (G.grid grid.now) (L.rule local.now) edge cells.now) phase }
+    requires stands { StandsIn
+        (universe (G.grid grid.now) (L.rule local.now) edge cells.now) phase }
     requires inside { IsInside (G.grid grid.now) site }
     ensures gathered { let U = universe (G.grid grid.now) (L.rule local.now) edge cells.now in
         result ≡ gathered (L.rule local.now) phase (seen U (state_at U) site) (degree (G.grid grid.now).kind) }
@@ -55,7 +57,8 @@ fn next_at<G: Lattice, L: Local>(
     cells: &[u32],
     place: usize,
 ) -> u32
-    requires stands { StandsIn (universe (G.grid grid.now) (L.rule local.now) edge cells.now) phase }
+    requires stands { StandsIn
+        (universe (G.grid grid.now) (L.rule local.now) edge cells.now) phase }
     requires listed { place < length cells.now }
     ensures { let U = universe (G.grid grid.now) (L.rule local.now) edge cells.now in
         result ≡ next_state U phase (state_at U) (site_at (G.grid grid.now) place) }
@@ -73,7 +76,8 @@ fn next_at<G: Lattice, L: Local>(
 fn next_inside<L: Local>(local: &L, phase: u32, cells: &[u32], width: usize, place: usize) -> u32
     requires phase { phase < (L.rule local.now).phases }
     requires inner { IsInner width (length cells.now) place }
-    requires states { (i : ℕ) → i < length cells.now → slice_index cells.now i < (L.rule local.now).states phase }
+    requires states { (i : ℕ) → i < length cells.now
+        → slice_index cells.now i < (L.rule local.now).states phase }
     ensures { result ≡ next_by_places (L.rule local.now) phase cells.now width place }
 {
     let is_six = local.degree() == 6;
@@ -99,11 +103,15 @@ fn write_row<G: Lattice, L: Local>(
     row: usize,
     next: &mut [u32],
 )
-    requires stands { StandsIn (universe (G.grid grid.now) (L.rule local.now) edge cells.now) phase }
+    requires stands { StandsIn
+        (universe (G.grid grid.now) (L.rule local.now) edge cells.now) phase }
     requires row { row < (G.grid grid.now).height }
     requires room { length next.old ≡ length cells.now }
-    requires above { IsNextBelow (universe (G.grid grid.now) (L.rule local.now) edge cells.now) phase next.old (row * (G.grid grid.now).width) }
-    ensures { IsNextBelow (universe (G.grid grid.now) (L.rule local.now) edge cells.now) phase next.new ((row + 1) * (G.grid grid.now).width) }
+    requires above { IsNextBelow
+        (universe (G.grid grid.now) (L.rule local.now) edge cells.now) phase next.old
+        (row * (G.grid grid.now).width) }
+    ensures { IsNextBelow (universe (G.grid grid.now)
+        (L.rule local.now) edge cells.now) phase next.new ((row + 1) * (G.grid grid.now).width) }
 {
     let width = grid.width() as usize;
     let height = grid.height() as usize;
@@ -128,7 +136,8 @@ fn write_phase<G: Lattice, L: Local>(
     cells: &[u32],
     next: &mut [u32],
 )
-    requires stands { StandsIn (universe (G.grid grid.now) (L.rule local.now) edge cells.now) phase }
+    requires stands { StandsIn
+        (universe (G.grid grid.now) (L.rule local.now) edge cells.now) phase }
     requires room { length next.old ≡ length cells.now }
     ensures { let U = universe (G.grid grid.now) (L.rule local.now) edge cells.now in
         next.new ≡ map (next_state U phase (state_at U)) (sites (G.grid grid.now)) }
@@ -147,7 +156,8 @@ pub fn take_step<G: Lattice, L: Local>(
     cells: &mut Vec<u32>,
     spare: &mut Vec<u32>,
 )
-    requires stands { IsUniverse (universe (G.grid grid.now) (L.rule local.now) edge cells.old.items) }
+    requires stands { IsUniverse
+        (universe (G.grid grid.now) (L.rule local.now) edge cells.old.items) }
     requires room { length spare.old.items ≡ length cells.old.items }
     ensures cells { let U = universe (G.grid grid.now) (L.rule local.now) edge cells.old.items in
         cells.new.items ≡ map (sync U 1) (sites (G.grid grid.now)) }
@@ -168,11 +178,13 @@ pub fn take_steps<G: Lattice, L: Local>(
     cells: &mut Vec<u32>,
     spare: &mut Vec<u32>,
 )
-    requires stands { IsUniverse (universe (G.grid grid.now) (L.rule local.now) edge cells.old.items) }
+    requires stands { IsUniverse
+        (universe (G.grid grid.now) (L.rule local.now) edge cells.old.items) }
     requires room { length spare.old.items ≡ length cells.old.items }
     ensures cells { let U = universe (G.grid grid.now) (L.rule local.now) edge cells.old.items in
         cells.new.items ≡ map (sync U times) (sites (G.grid grid.now)) }
-    ensures stands { IsUniverse (universe (G.grid grid.now) (L.rule local.now) edge cells.new.items) }
+    ensures stands { IsUniverse
+        (universe (G.grid grid.now) (L.rule local.now) edge cells.new.items) }
 {
     for _step in 0..times {
         take_step(grid, local, edge, cells, spare);

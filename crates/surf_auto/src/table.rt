@@ -29,7 +29,11 @@ impl TableLocal {
     /// each own state from 0 the next state for each sum from 0 to the degree times the greatest
     /// weight.
     pub fn new(degree: u32, weights: Vec<u32>, next: Vec<u32>) -> TableLocal
-        requires { IsTable (record { degree = degree; weights = weights.items; next = next.items }) }
+        requires { IsTable (record {
+          degree = degree;
+          weights = weights.items;
+          next = next.items;
+        }) }
         ensures { result ≡ record { degree = degree; weights = weights.items; next = next.items } }
     {
         let heaviest = greatest_of(&weights);

@@ -1,5 +1,5 @@
 -- Texts that are emitted in parts.
-use Rattle.std.proofs.Common.{ℕ, ◌≡◌, ◌+◌, ◌≤◌, List, [], ◌++◌, length, Option, Result, Ok, Err, OnOk, OnErr, IsErr, sym, ◌∙◌, ap, subst, arith, append_assoc, append-nil, length-append, refl}
+use Rattle.std.proofs.Common.{ℕ, ◌≡◌, ◌≤◌, List, [], ◌++◌, Option, Result, Ok, Err, OnOk, OnErr, IsErr, sym, ◌∙◌, ap, subst, arith, append_assoc, append-nil, length-append, refl}
 use Rattle.std.specs.Io.KnownBytes.{Appends}
 use Rattle.surf_base.specs.Causes.{Rose, HasCause}
 use Rattle.surf_base.specs.Known.{AppendsFront}

@@ -38,7 +38,8 @@ impl Outbox {
 
     /// Sends what is held. After a fault a front of it was sent.
     pub fn flush<K: Sink>(&mut self, sink: &mut K) -> Result<(), WriteFault>
-        ensures emits { Emits (outlet (K.written sink.old) self.old (K.faults sink.old)) (outlet (K.written sink.new) self.new (K.faults sink.new)) [] result }
+        ensures emits { Emits (outlet (K.written sink.old) self.old (K.faults sink.old))
+            (outlet (K.written sink.new) self.new (K.faults sink.new)) [] result }
         ensures empty { OnOk result (self.new ≡ []) }
     {
         write_all(sink, &self.bytes[..self.len])?;
@@ -58,7 +59,8 @@ impl Outbox {
 
     /// Takes a text, and sends what is held before it where it doesn't fit.
     pub fn put<K: Sink>(&mut self, sink: &mut K, text: &[u8]) -> Result<(), WriteFault>
-        ensures { Emits (outlet (K.written sink.old) self.old (K.faults sink.old)) (outlet (K.written sink.new) self.new (K.faults sink.new)) text.now result }
+        ensures { Emits (outlet (K.written sink.old) self.old (K.faults sink.old))
+            (outlet (K.written sink.new) self.new (K.faults sink.new)) text.now result }
     {
         if text.len() <= ROOM - self.len {
             self.hold(text);
@@ -71,7 +73,8 @@ impl Outbox {
     // Takes a text where nothing is held.
     fn put_large<K: Sink>(&mut self, sink: &mut K, text: &[u8]) -> Result<(), WriteFault>
         requires { self.old ≡ [] }
-        ensures { Emits (outlet (K.written sink.old) self.old (K.faults sink.old)) (outlet (K.written sink.new) self.new (K.faults sink.new)) text.now result }
+        ensures { Emits (outlet (K.written sink.old) self.old (K.faults sink.old))
+            (outlet (K.written sink.new) self.new (K.faults sink.new)) text.now result }
     {
         if text.len() <= ROOM {
             self.hold(text);

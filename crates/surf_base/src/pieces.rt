@@ -20,7 +20,9 @@ pub enum Piece<'a> {
 
 impl Outbox {
     fn put_piece<K: Sink>(&mut self, sink: &mut K, piece: &Piece<'_>) -> Result<(), WriteFault>
-        ensures { Emits (outlet (K.written sink.old) self.old (K.faults sink.old)) (outlet (K.written sink.new) self.new (K.faults sink.new)) (piece_text piece.now) result }
+        ensures { Emits (outlet (K.written sink.old) self.old (K.faults sink.old))
+            (outlet (K.written sink.new) self.new (K.faults sink.new))
+            (piece_text piece.now) result }
     {
         match piece {
             Piece::Text(text) => self.put(sink, *text),
@@ -36,7 +38,9 @@ impl Outbox {
         sink: &mut K,
         pieces: &[Piece<'_>],
     ) -> Result<(), WriteFault>
-        ensures { Emits (outlet (K.written sink.old) self.old (K.faults sink.old)) (outlet (K.written sink.new) self.new (K.faults sink.new)) (pieces_text pieces.now) result }
+        ensures { Emits (outlet (K.written sink.old) self.old (K.faults sink.old))
+            (outlet (K.written sink.new) self.new (K.faults sink.new))
+            (pieces_text pieces.now) result }
     {
         for piece in pieces {
             self.put_piece(sink, piece)?;
@@ -47,8 +51,10 @@ impl Outbox {
 
 /// Appends the text of the pieces, or some front of it at a fault.
 pub fn write_pieces<K: Sink>(sink: &mut K, pieces: &[Piece<'_>]) -> Result<(), WriteFault>
-    ensures all { OnOk result (Appends (K.written sink.old) (K.written sink.new) (pieces_text pieces.now)) }
-    ensures front { OnErr result (AppendsFront (K.written sink.old) (K.written sink.new) (pieces_text pieces.now)) }
+    ensures all { OnOk result
+        (Appends (K.written sink.old) (K.written sink.new) (pieces_text pieces.now)) }
+    ensures front { OnErr result
+        (AppendsFront (K.written sink.old) (K.written sink.new) (pieces_text pieces.now)) }
     ensures later { K.faults sink.old ≤ K.faults sink.new }
     ensures cause { OnErr result (Rose (K.faults sink.old) (K.faults sink.new)) }
 {

@@ -1,5 +1,4 @@
 pub mod Cutting
-pub mod Joining
 pub mod Growth
 pub mod Tokens
 pub mod Lists

@@ -8,3 +8,4 @@ pub mod Steps
 pub mod Drafts
 pub mod Answers
 pub mod Evals
+pub mod LogicalTexts

@@ -36,7 +36,8 @@ fn extend(list: &mut Vec<u32>, more: &[u32]) -> Result<(), NoMemory>
 
 // Adds a row to an equation. The first row gives the polarity.
 fn put_row(equation: &mut Equation, row: Row, output: bool) -> Result<(), NoMemory>
-    ensures { IfOk result (λ _. equation.new ≡ add_row (record { literals = row; output = output }) equation.old) }
+    ensures { IfOk result (λ _. equation.new
+        ≡ add_row (record { literals = row; output = output }) equation.old) }
 {
     if equation.rows.is_empty() {
         equation.polarity = output;
@@ -47,7 +48,8 @@ fn put_row(equation: &mut Equation, row: Row, output: bool) -> Result<(), NoMemo
 
 // Adds a row to the last equation.
 fn put_last(equations: &mut Vec<Equation>, row: Row, output: bool) -> Result<(), NoMemory>
-    ensures { IfOk result (λ _. equations.new.items ≡ on_last (add_row (record { literals = row; output = output })) equations.old.items) }
+    ensures { IfOk result (λ _. equations.new.items
+        ≡ on_last (add_row (record { literals = row; output = output })) equations.old.items) }
 {
     if equations.is_empty() {
         return Ok(());
@@ -78,7 +80,10 @@ impl Draft {
         requires room { HasRoom self.old (length line.now) }
         ensures draft { IfOk result (λ _. IsDraft self.new) }
         ensures room { IfOk result (λ _. IsWithin (length line.now) self.old self.new) }
-        ensures held { IfOk result (λ _. held_by self.new ≡ keeping (held_by self.old) (length (tokens_of line.now)) (with_inputs (held_by self.old).parts (tokens_of line.now))) }
+        ensures held { IfOk result
+            (λ _. held_by self.new
+            ≡ keeping (held_by self.old) (length (tokens_of line.now))
+            (with_inputs (held_by self.old).parts (tokens_of line.now))) }
     {
         self.cost += count_tokens(line) as u64;
         if self.cost > COST_LIMIT {
@@ -95,7 +100,10 @@ impl Draft {
         requires room { HasRoom self.old (length line.now) }
         ensures draft { IfOk result (λ _. IsDraft self.new) }
         ensures room { IfOk result (λ _. IsWithin (length line.now) self.old self.new) }
-        ensures held { IfOk result (λ _. held_by self.new ≡ keeping (held_by self.old) (length (tokens_of line.now)) (with_outputs (held_by self.old).parts (tokens_of line.now))) }
+        ensures held { IfOk result
+            (λ _. held_by self.new
+            ≡ keeping (held_by self.old) (length (tokens_of line.now))
+            (with_outputs (held_by self.old).parts (tokens_of line.now))) }
     {
         self.cost += count_tokens(line) as u64;
         if self.cost > COST_LIMIT {
@@ -113,7 +121,10 @@ impl Draft {
         requires some { 0 < length (tokens_of line.now) }
         ensures draft { IfOk result (λ _. IsDraft self.new) }
         ensures room { IfOk result (λ _. IsWithin (length line.now) self.old self.new) }
-        ensures held { IfOk result (λ _. held_by self.new ≡ keeping (held_by self.old) 1 (with_equation (held_by self.old).parts (tokens_of line.now))) }
+        ensures held { IfOk result
+            (λ _. held_by self.new
+            ≡ keeping (held_by self.old) 1
+            (with_equation (held_by self.old).parts (tokens_of line.now))) }
     {
         self.cost += 1;
         if self.cost > COST_LIMIT {
@@ -136,8 +147,10 @@ impl Draft {
         requires draft { IsDraft self.old }
         requires room { HasRoom self.old (1 + length row.literals.now) }
         ensures draft { IfOk result (λ _. IsDraft self.new) }
-        ensures room { IfOk result (λ _. IsWithin (1 + length row.entry.literals.now) self.old self.new) }
-        ensures held { IfOk result (λ _. held_by self.new ≡ with_row (held_by self.old) (row_said row.entry)) }
+        ensures room { IfOk result
+            (λ _. IsWithin (1 + length row.entry.literals.now) self.old self.new) }
+        ensures held { IfOk result
+            (λ _. held_by self.new ≡ with_row (held_by self.old) (row_said row.entry)) }
     {
         self.cost += row.cost();
         if self.cost > COST_LIMIT {

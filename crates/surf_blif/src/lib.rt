@@ -12,6 +12,7 @@ mod error;
 mod joins;
 mod kinds;
 mod laws;
+mod logical;
 mod numbering;
 mod reader;
 mod reading;

@@ -87,7 +87,9 @@ impl Reading {
         ensures draft { IfOk result (λ _. IsDraft self.new.draft) }
         ensures room { IfOk result (λ _. IsWithin (length line.now) self.old.draft self.new.draft) }
         ensures fault { IfOk result (λ _. names_fault number (tokens_of line.now) ≡ None) }
-        ensures step { IfOk result (λ _. reached_by self.new ≡ after_line (reached_by self.old) (Names (tokens_of line.now))) }
+        ensures step { IfOk result
+            (λ _. reached_by self.new
+            ≡ after_line (reached_by self.old) (Names (tokens_of line.now))) }
         ensures refused { IfErr result (Tells (names_fault number (tokens_of line.now))) }
     {
         let count = count_tokens(line);
@@ -111,9 +113,13 @@ impl Reading {
         requires room { HasRoom self.old.draft (length line.now) }
         ensures draft { IfOk result (λ _. IsDraft self.new.draft) }
         ensures room { IfOk result (λ _. IsWithin (length line.now) self.old.draft self.new.draft) }
-        ensures fault { IfOk result (λ _. cover_fault number self.old.cover (tokens_of line.now) ≡ None) }
-        ensures step { IfOk result (λ _. reached_by self.new ≡ after_line (reached_by self.old) (Row (tokens_of line.now))) }
-        ensures refused { IfErr result (Tells (cover_fault number self.old.cover (tokens_of line.now))) }
+        ensures fault { IfOk result
+            (λ _. cover_fault number self.old.cover (tokens_of line.now) ≡ None) }
+        ensures step { IfOk result
+            (λ _. reached_by self.new
+            ≡ after_line (reached_by self.old) (Row (tokens_of line.now))) }
+        ensures refused { IfErr result
+            (Tells (cover_fault number self.old.cover (tokens_of line.now))) }
     {
         let Some(cover) = self.cover else {
             return Err(BlifError::BadLine(number));
@@ -140,10 +146,15 @@ impl Reading {
         requires draft { IsDraft self.old.draft }
         requires room { HasRoom self.old.draft (length_of_kind line) }
         ensures draft { IfOk result (λ _. IsDraft self.new.draft) }
-        ensures room { IfOk result (λ _. IsWithin (length_of_kind line.entry) self.old.draft self.new.draft) }
-        ensures fault { IfOk result (λ _. line_fault self.old.cover number (line_of_kind line.entry) ≡ None) }
-        ensures step { IfOk result (λ _. reached_by self.new ≡ after_line (reached_by self.old) (line_of_kind line.entry)) }
-        ensures refused { IfErr result (Tells (line_fault self.old.cover number (line_of_kind line.entry))) }
+        ensures room { IfOk result
+            (λ _. IsWithin (length_of_kind line.entry) self.old.draft self.new.draft) }
+        ensures fault { IfOk result
+            (λ _. line_fault self.old.cover number (line_of_kind line.entry) ≡ None) }
+        ensures step { IfOk result
+            (λ _. reached_by self.new
+            ≡ after_line (reached_by self.old) (line_of_kind line.entry)) }
+        ensures refused { IfErr result
+            (Tells (line_fault self.old.cover number (line_of_kind line.entry))) }
     {
         match line {
             LineKind::Skipped => Ok(()),
@@ -187,8 +198,15 @@ impl Reading {
         requires room { HasRoom self.old.draft (length text.now) }
         ensures draft { IfOk result (λ _. IsDraft self.new.draft) }
         ensures room { IfOk result (λ _. IsWithin (length text.now) self.old.draft self.new.draft) }
-        ensures read { IfOk result (λ e. (ls : List Placed) → read_on (reached_by self.old) (placed (record { number = number; text = text.now }) ∷ ls) ≡ read_then e (reached_by self.new) ls) }
-        ensures refused { IfErr result (λ e. (ls : List Placed) → Tells (fault_in (read_on (reached_by self.old) (placed (record { number = number; text = text.now }) ∷ ls))) e) }
+        ensures read { IfOk result
+            (λ e. (ls : List Placed)
+            → read_on (reached_by self.old)
+            (placed (record { number = number; text = text.now }) ∷ ls)
+            ≡ read_then e (reached_by self.new) ls) }
+        ensures refused { IfErr result
+            (λ e. (ls : List Placed)
+            → Tells (fault_in (read_on (reached_by self.old)
+            (placed (record { number = number; text = text.now }) ∷ ls))) e) }
     {
         let line = kind_of(text);
         let extent = self.extent(line);

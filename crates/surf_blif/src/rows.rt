@@ -41,7 +41,8 @@ fn read_bit(token: &[u8]) -> Option<bool>
 
 fn read_constant(line: &[u8]) -> Option<RowText<'_>>
     ensures within { IfSome result (λ r. 1 + length r.literals.now ≤ length line.now) }
-    ensures row { MatchOption result (constant_row (tokens_of line.now) ≡ None) (λ r. constant_row (tokens_of line.now) ≡ Some (row_said r)) }
+    ensures row { MatchOption result (constant_row (tokens_of line.now) ≡ None)
+        (λ r. constant_row (tokens_of line.now) ≡ Some (row_said r)) }
 {
     let (output, rest) = next_token(line)?;
     if next_token(rest).is_some() {
@@ -56,7 +57,8 @@ fn read_constant(line: &[u8]) -> Option<RowText<'_>>
 
 fn read_signed(inputs: usize, line: &[u8]) -> Option<RowText<'_>>
     ensures within { IfSome result (λ r. 1 + length r.literals.now ≤ length line.now) }
-    ensures row { MatchOption result (signed_row inputs (tokens_of line.now) ≡ None) (λ r. signed_row inputs (tokens_of line.now) ≡ Some (row_said r)) }
+    ensures row { MatchOption result (signed_row inputs (tokens_of line.now) ≡ None)
+        (λ r. signed_row inputs (tokens_of line.now) ≡ Some (row_said r)) }
 {
     let (literals, rest) = next_token(line)?;
     let (output, rest) = next_token(rest)?;
@@ -72,7 +74,8 @@ fn read_signed(inputs: usize, line: &[u8]) -> Option<RowText<'_>>
 
 /// The row of a cover of so many inputs that a line spells.
 pub fn read_row(inputs: usize, line: &[u8]) -> Option<RowText<'_>>
-    ensures row { MatchOption result (row_of inputs (tokens_of line.now) ≡ None) (λ r. row_of inputs (tokens_of line.now) ≡ Some (row_said r)) }
+    ensures row { MatchOption result (row_of inputs (tokens_of line.now) ≡ None)
+        (λ r. row_of inputs (tokens_of line.now) ≡ Some (row_said r)) }
     ensures within { IfSome result (λ r. 1 + length r.literals.now ≤ length line.now) }
 {
     if inputs == 0 {

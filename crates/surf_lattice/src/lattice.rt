@@ -52,7 +52,8 @@ pub trait Lattice {
 
     /// The neighbours that exist, in the order of directions. A site outside has none.
     fn neighbours(&self, alloc: Global, site: Site) -> SmallVec<Site, 6, Global>
-        ensures inside { IsInside (grid self.now) site → result.items ≡ neighbours (grid self.now) site }
+        ensures inside { IsInside (grid self.now) site → result.items
+            ≡ neighbours (grid self.now) site }
         ensures outside { (IsInside (grid self.now) site → ⊥) → result.items ≡ [] }
     {
         let mut found = SmallVec::new(alloc);

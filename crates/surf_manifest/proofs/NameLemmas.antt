@@ -1,5 +1,5 @@
 -- The names that are held after all lines are those of the text, where rules and sites are within the limits.
-use Rattle.std.proofs.Common.{ℕ, ◌≡◌, ◌+◌, ◌-◌, ◌<◌, ◌≤◌, true, nat_lt, is_some, not, ◌==◌, List, [], ◌∷◌, ◌++◌, length, take, map, Option, Some, None, Result, Ok, Err, IfOk, refl, sym, ◌∙◌, ap, subst, arith, append-nil}
+use Rattle.std.proofs.Common.{ℕ, ◌≡◌, ◌+◌, ◌-◌, ◌≤◌, true, nat_lt, is_some, not, ◌==◌, List, [], ◌∷◌, ◌++◌, length, take, map, Option, Some, None, Result, Ok, Err, IfOk, refl, sym, ◌∙◌, ap, subst, arith}
 use Rattle.std.proofs.lemmas.Bool.{lt-ltb, ltb-false}
 use Rattle.std.proofs.lemmas.List.{take_all}
 use Rattle.surf_rules.specs.Names.{with_text}
@@ -11,9 +11,8 @@ use Rattle.surf_manifest.specs.Grammar.{ManifestText, Parts, known, line_number,
 use Rattle.surf_manifest.specs.Item.{Item, Geometry, Wrap, Kept, Rule, Row, Colour, item_of}
 use Rattle.surf_manifest.specs.Line.{Line, Skipped, Opens, Closes, Includes, Unknown, Content, line_of}
 use Rattle.surf_manifest.specs.Limits.{Held, held_of, holding_result, Reached, reached, parts_held, after_line, after_lines, finished, end_fault, at_start}
-use Rattle.surf_manifest.specs.Naming.{line_names, names_from, names_in, result_names, rule_names, with_texts}
+use Rattle.surf_manifest.specs.Naming.{line_names, names_from, names_in, result_names, with_texts}
 use Rattle.surf_manifest.specs.Numbered.{NamedManifest}
-use Rattle.surf_manifest.specs.Steps.{next}
 use Rattle.surf_manifest.proofs.Good.{none_if}
 use Rattle.surf_manifest.proofs.LimitLemmas.{after_is}
 use Rattle.surf_manifest.proofs.StepLemmas.{next_is}

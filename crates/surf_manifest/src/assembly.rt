@@ -77,7 +77,8 @@ impl Manifest {
     pub fn put(&mut self, site: Site, name: u32)
         requires inside { IsInside self.old.text.system.surface.grid site }
         requires name { name < length self.old.names }
-        ensures { self.new ≡ with_site self.old (place self.old.text.system.surface.grid site) (text_of self.old.names name) }
+        ensures { self.new ≡ with_site self.old (place self.old.text.system.surface.grid site)
+            (text_of self.old.names name) }
     {
         let place = site.y as usize * self.width as usize + site.x as usize;
         self.start[place] = name;
@@ -89,7 +90,8 @@ impl Manifest {
         requires room { length self.old.names < 2 ^ 32 - 1 }
         ensures found { IfOk result (λ k. slice_get self.new.names k ≡ Some bytes.now) }
         ensures within { IfOk result (λ k. k < length self.new.names) }
-        ensures grown { OnOk result (self.new ≡ record self.old { names = with_text self.old.names bytes.now }) }
+        ensures grown { OnOk result
+            (self.new ≡ record self.old { names = with_text self.old.names bytes.now }) }
         ensures err { OnErr result (self.new ≡ self.old) }
     {
         self.names.intern(bytes)

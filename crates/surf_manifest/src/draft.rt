@@ -73,7 +73,9 @@ impl Draft {
     pub fn keep(&mut self, alloc: Global, key: &[u8], value: &[u8]) -> Result<(), NoMemory>
         requires { IsDraft self.old }
         ensures draft { IfOk result (λ _. IsDraft self.new) }
-        ensures held { IfOk result (λ _. held_by self.new ≡ holding (held_by self.old) (Kept (record { key = key.now; value = value.now }))) }
+        ensures held { IfOk result
+            (λ _. held_by self.new
+            ≡ holding (held_by self.old) (Kept (record { key = key.now; value = value.now }))) }
     {
         let line = OptionLine {
             key: text(alloc, key)?,
@@ -87,7 +89,8 @@ impl Draft {
     pub fn add_colour(&mut self, alloc: Global, line: &[u8]) -> Result<(), NoMemory>
         requires { IsDraft self.old }
         ensures draft { IfOk result (λ _. IsDraft self.new) }
-        ensures held { IfOk result (λ _. held_by self.new ≡ holding (held_by self.old) (Colour line.now)) }
+        ensures held { IfOk result
+            (λ _. held_by self.new ≡ holding (held_by self.old) (Colour line.now)) }
     {
         let line = text(alloc, line)?;
         self.colours.push(line).map_err(|_| NoMemory)?;
@@ -100,7 +103,8 @@ impl Draft {
         requires rule { is_rule (rule_of_line line.now) ≡ true }
         requires counted { self.old.rule_count < 2 ^ 63 }
         ensures draft { IfOk result (λ _. IsDraft self.new) }
-        ensures held { IfOk result (λ _. held_by self.new ≡ with_rule (held_by self.old) (rule_of_line line.now)) }
+        ensures held { IfOk result
+            (λ _. held_by self.new ≡ with_rule (held_by self.old) (rule_of_line line.now)) }
     {
         self.rule_count += 1;
         if self.rules.len() >= RULE_LIMIT {
@@ -115,7 +119,10 @@ impl Draft {
     fn add_option(&mut self, alloc: Global, number: u64, line: &[u8]) -> Result<(), ManifestError>
         requires { IsDraft self.old }
         ensures draft { IfOk result (λ _. IsDraft self.new) }
-        ensures step { MatchResult result (λ _. item_step number (held_by self.old) (option_of number line.now) ≡ Ok (held_by self.new)) (λ f. Refuses (item_step number (held_by self.old) (option_of number line.now)) f) }
+        ensures step { MatchResult result
+            (λ _. item_step number (held_by self.old) (option_of number line.now)
+            ≡ Ok (held_by self.new))
+            (λ f. Refuses (item_step number (held_by self.old) (option_of number line.now)) f) }
     {
         match option_line(number, line)? {
             Setting::Geometry(kind) => self.kind = kind,
@@ -132,7 +139,10 @@ impl Draft {
         requires draft { IsDraft self.old }
         requires counted { self.old.rule_count < 2 ^ 63 }
         ensures draft { IfOk result (λ _. IsDraft self.new) }
-        ensures step { MatchResult result (λ _. item_step number (held_by self.old) (rule_line_of number line.now) ≡ Ok (held_by self.new)) (λ f. Refuses (item_step number (held_by self.old) (rule_line_of number line.now)) f) }
+        ensures step { MatchResult result
+            (λ _. item_step number (held_by self.old) (rule_line_of number line.now)
+            ≡ Ok (held_by self.new))
+            (λ f. Refuses (item_step number (held_by self.old) (rule_line_of number line.now)) f) }
     {
         let rule = rule_line(number, line)?;
         self.add_rule(&rule).map_err(|_| ManifestError::NoMemory)
@@ -149,7 +159,10 @@ impl Draft {
         requires draft { IsDraft self.old }
         requires counted { HasRoom (held_by self.old) (length line.now) }
         ensures draft { IfOk result (λ _. IsDraft self.new) }
-        ensures step { MatchResult result (λ _. item_step number (held_by self.old) (item_of number block line.now) ≡ Ok (held_by self.new)) (λ f. Refuses (item_step number (held_by self.old) (item_of number block line.now)) f) }
+        ensures step { MatchResult result
+            (λ _. item_step number (held_by self.old) (item_of number block line.now)
+            ≡ Ok (held_by self.new))
+            (λ f. Refuses (item_step number (held_by self.old) (item_of number block line.now)) f) }
     {
         match block {
             None => self.add_option(alloc, number, line),

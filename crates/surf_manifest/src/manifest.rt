@@ -77,7 +77,8 @@ impl Manifest {
 
     /// The rules, over numbers of the names.
     pub fn rules(&self) -> &[Rule]
-        ensures named { map (named_rule self.now.names) result.now ≡ self.now.text.system.surface.rules }
+        ensures named { map (named_rule self.now.names) result.now
+            ≡ self.now.text.system.surface.rules }
         ensures below { RulesBelow (length self.now.names) result.now }
     {
         &self.rules
@@ -93,7 +94,8 @@ impl Manifest {
 
     /// The lines of the colormap, where there is one.
     pub fn colormap(&self) -> Option<&[Text]>
-        ensures { MatchOption result (self.now.text.colormap ≡ None) (λ r. self.now.text.colormap ≡ Some r.now) }
+        ensures { MatchOption result (self.now.text.colormap ≡ None)
+            (λ r. self.now.text.colormap ≡ Some r.now) }
     {
         match &self.colormap {
             Some(lines) => Some(lines.as_slice()),

@@ -35,7 +35,8 @@ pub fn numbered_rule(names: &mut Names, line: &RuleLine<'_>) -> Result<Rule, NoM
     requires texts { list_all is_name names.old ≡ true }
     ensures texts { IfOk result (λ _. list_all is_name names.new ≡ true) }
     ensures rule { IfOk result (λ r. named_rule names.new r ≡ rule_of_line line.now) }
-    ensures named { IfOk result (λ _. names.new ≡ with_texts names.old (rule_names (rule_of_line line.now))) }
+    ensures named { IfOk result
+        (λ _. names.new ≡ with_texts names.old (rule_names (rule_of_line line.now))) }
     ensures below { IfOk result (λ r. RuleBelow (length names.new) (rule_of r)) }
     ensures grown { IfOk result (λ _. IsGrown 4 names.old names.new) }
 {

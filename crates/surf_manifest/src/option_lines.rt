@@ -17,7 +17,9 @@ pub enum Setting<'a> {
 }
 
 fn geometry<'a>(number: u64, value: &[u8]) -> Result<Setting<'a>, ManifestError>
-    ensures { MatchResult result (λ s. geometry_of number (map to_ascii_lowercase value.now) ≡ Ok (item_of_setting s)) (λ f. geometry_of number (map to_ascii_lowercase value.now) ≡ Err f) }
+    ensures { MatchResult result
+        (λ s. geometry_of number (map to_ascii_lowercase value.now) ≡ Ok (item_of_setting s))
+        (λ f. geometry_of number (map to_ascii_lowercase value.now) ≡ Err f) }
 {
     if value.eq_ignore_ascii_case(b"square") {
         return Ok(Setting::Geometry(GridKind::Square));
@@ -29,7 +31,9 @@ fn geometry<'a>(number: u64, value: &[u8]) -> Result<Setting<'a>, ManifestError>
 }
 
 fn wrap<'a>(number: u64, value: &[u8]) -> Result<Setting<'a>, ManifestError>
-    ensures { MatchResult result (λ s. wrap_of number (map to_ascii_lowercase value.now) ≡ Ok (item_of_setting s)) (λ f. wrap_of number (map to_ascii_lowercase value.now) ≡ Err f) }
+    ensures { MatchResult result
+        (λ s. wrap_of number (map to_ascii_lowercase value.now) ≡ Ok (item_of_setting s))
+        (λ f. wrap_of number (map to_ascii_lowercase value.now) ≡ Err f) }
 {
     if value.eq_ignore_ascii_case(b"true") {
         return Ok(Setting::Wrap(true));
@@ -41,7 +45,8 @@ fn wrap<'a>(number: u64, value: &[u8]) -> Result<Setting<'a>, ManifestError>
 }
 
 fn setting_at<'a>(number: u64, key: &'a [u8], value: &'a [u8]) -> Result<Setting<'a>, ManifestError>
-    ensures { MatchResult result (λ s. setting_of number key.now value.now ≡ Ok (item_of_setting s)) (λ f. setting_of number key.now value.now ≡ Err f) }
+    ensures { MatchResult result (λ s. setting_of number key.now value.now ≡ Ok (item_of_setting s))
+        (λ f. setting_of number key.now value.now ≡ Err f) }
 {
     if key == b"geometry".as_slice() {
         return geometry(number, value);
@@ -54,7 +59,8 @@ fn setting_at<'a>(number: u64, key: &'a [u8], value: &'a [u8]) -> Result<Setting
 
 /// What the option line of this number sets.
 pub fn option_line(number: u64, text: &[u8]) -> Result<Setting<'_>, ManifestError>
-    ensures { MatchResult result (λ s. option_of number text.now ≡ Ok (item_of_setting s)) (λ f. option_of number text.now ≡ Err f) }
+    ensures { MatchResult result (λ s. option_of number text.now ≡ Ok (item_of_setting s))
+        (λ f. option_of number text.now ≡ Err f) }
 {
     let (front, rest) = cut(text, b'=');
     let key = trim(front);

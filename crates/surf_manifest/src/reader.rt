@@ -21,7 +21,8 @@ fn read_lines(alloc: Global, text: &[u8]) -> Result<Reading, ManifestError>
     ensures draft { IfOk result (λ r. IsDraft r.draft) }
     ensures counted { IfOk result (λ r. IsCounted 2147483648 (reached_by r)) }
     ensures read { IfOk result (λ r. manifest_of text.now ≡ finished (reached_by r)) }
-    ensures after { IfOk result (λ r. after_lines at_start (map line_of (lines_of text.now)) ≡ reached_by r) }
+    ensures after { IfOk result
+        (λ r. after_lines at_start (map line_of (lines_of text.now)) ≡ reached_by r) }
     ensures refused { IfErr result (λ f. Refuses (manifest_of text.now) f) }
 {
     let mut reading = Reading::new(alloc);

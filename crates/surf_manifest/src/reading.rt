@@ -72,7 +72,10 @@ impl Reading {
     fn open(&mut self, block: BlockKind) -> Result<(), ManifestError>
         requires { IsDraft self.old.draft }
         ensures draft { IfOk result (λ _. IsDraft self.new.draft) }
-        ensures step { MatchResult result (λ _. line_step (reached_by self.old) (Opens block) ≡ Ok (counted (reached_by self.new))) (λ f. line_step (reached_by self.old) (Opens block) ≡ Err f) }
+        ensures step { MatchResult result
+            (λ _. line_step (reached_by self.old) (Opens block)
+            ≡ Ok (counted (reached_by self.new)))
+            (λ f. line_step (reached_by self.old) (Opens block) ≡ Err f) }
     {
         if self.block.is_some() {
             return Err(ManifestError::BadLine(self.number));
@@ -87,7 +90,10 @@ impl Reading {
     fn close(&mut self, block: BlockKind) -> Result<(), ManifestError>
         requires { IsDraft self.old.draft }
         ensures draft { IfOk result (λ _. IsDraft self.new.draft) }
-        ensures step { MatchResult result (λ _. line_step (reached_by self.old) (Closes block) ≡ Ok (counted (reached_by self.new))) (λ f. line_step (reached_by self.old) (Closes block) ≡ Err f) }
+        ensures step { MatchResult result
+            (λ _. line_step (reached_by self.old) (Closes block)
+            ≡ Ok (counted (reached_by self.new)))
+            (λ f. line_step (reached_by self.old) (Closes block) ≡ Err f) }
     {
         let current = self.block;
         match current {
@@ -104,7 +110,10 @@ impl Reading {
         requires draft { IsDraft self.old.draft }
         requires room { HasRoomFor (reached_by self.old).held (line_of_kind line) }
         ensures draft { IfOk result (λ _. IsDraft self.new.draft) }
-        ensures step { MatchResult result (λ _. line_step (reached_by self.old) (line_of_kind line.entry) ≡ Ok (counted (reached_by self.new))) (λ f. Refuses (line_step (reached_by self.old) (line_of_kind line.entry)) f) }
+        ensures step { MatchResult result
+            (λ _. line_step (reached_by self.old) (line_of_kind line.entry)
+            ≡ Ok (counted (reached_by self.new)))
+            (λ f. Refuses (line_step (reached_by self.old) (line_of_kind line.entry)) f) }
     {
         match line {
             LineKind::Skipped => Ok(()),
@@ -122,7 +131,9 @@ impl Reading {
         requires number { self.old.number < 2 ^ 63 }
         requires room { HasRoom (reached_by self.old).held (length line.now) }
         ensures draft { IfOk result (λ _. IsDraft self.new.draft) }
-        ensures step { MatchResult result (λ _. line_step (reached_by self.old) (line_of line.now) ≡ Ok (reached_by self.new)) (λ f. Refuses (line_step (reached_by self.old) (line_of line.now)) f) }
+        ensures step { MatchResult result
+            (λ _. line_step (reached_by self.old) (line_of line.now) ≡ Ok (reached_by self.new))
+            (λ f. Refuses (line_step (reached_by self.old) (line_of line.now)) f) }
     {
         self.take(alloc, kind_of(line))?;
         self.number += 1;
@@ -131,7 +142,9 @@ impl Reading {
 
     // The fault of a text whose lines have none.
     fn end_fault(&self) -> Option<ManifestError>
-        ensures { MatchOption result (end_fault (reached_by self.now) (reached_by self.now).held ≡ None) (λ f. end_fault (reached_by self.now) (reached_by self.now).held ≡ Some f) }
+        ensures { MatchOption result
+            (end_fault (reached_by self.now) (reached_by self.now).held ≡ None)
+            (λ f. end_fault (reached_by self.now) (reached_by self.now).held ≡ Some f) }
     {
         let draft = &self.draft;
         if self.block.is_some() {

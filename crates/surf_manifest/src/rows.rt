@@ -20,7 +20,8 @@ impl Draft {
         requires name { is_name name.now ≡ true }
         requires counted { self.old.site_count < 2 ^ 63 }
         ensures draft { IfOk result (λ _. IsDraft self.new) }
-        ensures held { IfOk result (λ _. held_by self.new ≡ with_names (held_by self.old) (name.now ∷ [])) }
+        ensures held { IfOk result
+            (λ _. held_by self.new ≡ with_names (held_by self.old) (name.now ∷ [])) }
     {
         self.site_count += 1;
         if self.start.len() >= SITE_LIMIT {
@@ -38,7 +39,8 @@ impl Draft {
         ensures draft { IfOk result (λ _. IsDraft self.new) }
         ensures count { IfOk result (λ n. n ≡ length (tokens_of text.now)) }
         ensures names { IfOk result (λ _. list_all is_name (tokens_of text.now) ≡ true) }
-        ensures held { IfOk result (λ _. held_by self.new ≡ with_names (held_by self.old) (tokens_of text.now)) }
+        ensures held { IfOk result
+            (λ _. held_by self.new ≡ with_names (held_by self.old) (tokens_of text.now)) }
         ensures refused { IfErr result (λ f. Refuses (row_of number (tokens_of text.now)) f) }
     {
         let mut count = 0u64;
@@ -73,7 +75,11 @@ impl Draft {
         requires counted { self.old.site_count + length text.now < 2 ^ 63 }
         requires counted_rows { self.old.height < 2 ^ 63 }
         ensures draft { IfOk result (λ _. IsDraft self.new) }
-        ensures step { MatchResult result (λ _. item_step number (held_by self.old) (row_of number (tokens_of text.now)) ≡ Ok (held_by self.new)) (λ f. Refuses (item_step number (held_by self.old) (row_of number (tokens_of text.now))) f) }
+        ensures step { MatchResult result
+            (λ _. item_step number (held_by self.old) (row_of number (tokens_of text.now))
+            ≡ Ok (held_by self.new))
+            (λ f. Refuses (item_step number (held_by self.old)
+            (row_of number (tokens_of text.now))) f) }
     {
         let count = self.add_names(number, text)?;
         if self.height != 0 && count != self.width {

@@ -32,7 +32,8 @@ fn are_one(left: &[u8], arrow: &[u8], after: &[u8]) -> bool
 }
 
 fn are_signs(plus: &[u8], arrow: &[u8], also: &[u8]) -> bool
-    ensures { result ≡ (bytes_eq plus.now (codes "+") && (bytes_eq arrow.now (codes "->") && bytes_eq also.now (codes "+"))) }
+    ensures { result ≡ (bytes_eq plus.now (codes "+") &&
+        (bytes_eq arrow.now (codes "->") && bytes_eq also.now (codes "+"))) }
 {
     plus == b"+".as_slice() && (arrow == b"->".as_slice() && also == b"+".as_slice())
 }
@@ -45,7 +46,8 @@ fn are_names(a: &[u8], b: &[u8], c: &[u8], d: &[u8]) -> bool
 
 // The rule of these tokens, where they are one.
 fn rule_tokens(rate: u64, text: &[u8]) -> Option<RuleLine<'_>>
-    ensures { MatchOption result (rule_of_tokens rate (tokens_of text.now) ≡ None) (λ s. rule_of_tokens rate (tokens_of text.now) ≡ Some (rule_of_line s)) }
+    ensures { MatchOption result (rule_of_tokens rate (tokens_of text.now) ≡ None)
+        (λ s. rule_of_tokens rate (tokens_of text.now) ≡ Some (rule_of_line s)) }
 {
     let (a, rest) = next_token(text)?;
     let (b, rest) = next_token(rest)?;
@@ -78,7 +80,10 @@ fn rule_tokens(rate: u64, text: &[u8]) -> Option<RuleLine<'_>>
 
 // The rate before the closing bracket, and what follows that.
 fn bracketed(number: u64, text: &[u8]) -> Result<(u64, &[u8]), ManifestError>
-    ensures { MatchResult result (λ r. bracketed_rule number (before 41 text.now) (after 41 text.now) ≡ rule_from number r.0 (tokens_of r.1.now)) (λ f. bracketed_rule number (before 41 text.now) (after 41 text.now) ≡ Err f) }
+    ensures { MatchResult result
+        (λ r. bracketed_rule number (before 41 text.now) (after 41 text.now)
+        ≡ rule_from number r.0 (tokens_of r.1.now))
+        (λ f. bracketed_rule number (before 41 text.now) (after 41 text.now) ≡ Err f) }
 {
     let (inside, rest) = cut(text, b')');
     let Some(rest) = rest else {
@@ -92,7 +97,9 @@ fn bracketed(number: u64, text: &[u8]) -> Result<(u64, &[u8]), ManifestError>
 
 // The rate of a rule line, and what follows it.
 fn rated(number: u64, text: &[u8]) -> Result<(u64, &[u8]), ManifestError>
-    ensures { MatchResult result (λ r. rule_line_of number text.now ≡ rule_from number r.0 (tokens_of r.1.now)) (λ f. rule_line_of number text.now ≡ Err f) }
+    ensures { MatchResult result
+        (λ r. rule_line_of number text.now ≡ rule_from number r.0 (tokens_of r.1.now))
+        (λ f. rule_line_of number text.now ≡ Err f) }
 {
     if !text.is_empty() && text[0] == b'(' {
         bracketed(number, &text[1..])
@@ -103,7 +110,9 @@ fn rated(number: u64, text: &[u8]) -> Result<(u64, &[u8]), ManifestError>
 
 /// The rule of the line of this number.
 pub fn rule_line(number: u64, text: &[u8]) -> Result<RuleLine<'_>, ManifestError>
-    ensures value { MatchResult result (λ r. rule_line_of number text.now ≡ Ok (Rule (rule_of_line r))) (λ f. rule_line_of number text.now ≡ Err f) }
+    ensures value { MatchResult result
+        (λ r. rule_line_of number text.now ≡ Ok (Rule (rule_of_line r)))
+        (λ f. rule_line_of number text.now ≡ Err f) }
     ensures rule { IfOk result (λ r. is_rule (rule_of_line r) ≡ true) }
 {
     let (rate, rest) = rated(number, text)?;

@@ -1,5 +1,5 @@
 -- The line of the header is the first that is kept.
-use Rattle.std.proofs.Common.{ℕ, suc, ◌≡◌, ◌+◌, Bool, true, false, List, [], ◌∷◌, length, Option, Some, None, Result, Ok, Err, refl, sym, ap, subst, arith, if◌then◌else◌, ◌∙◌}
+use Rattle.std.proofs.Common.{ℕ, suc, ◌≡◌, ◌+◌, Bool, true, false, List, [], ◌∷◌, length, Option, Some, None, Result, Err, refl, sym, ap, subst, arith, if◌then◌else◌, ◌∙◌}
 use Rattle.surf_text.specs.Bytes.{lines_of, trimmed}
 use Rattle.surf_text.specs.Cursors.{Cursor, Kept, first_kept}
 use Rattle.surf_auto.specs.Sync.{Universe}

@@ -16,8 +16,10 @@ const SITE_LIMIT: u128 = 1_000_000;
 
 /// Refuses a box that is empty or, with its margin, too large.
 pub fn check_box(sheet: &Sheet) -> Result<(), SourceError>
-    ensures ok { IfOk result (λ _. box_fault sheet.now.margin sheet.now.width sheet.now.height ≡ None) }
-    ensures refused { IfErr result (λ f. box_fault sheet.now.margin sheet.now.width sheet.now.height ≡ Some f) }
+    ensures ok { IfOk result
+        (λ _. box_fault sheet.now.margin sheet.now.width sheet.now.height ≡ None) }
+    ensures refused { IfErr result
+        (λ f. box_fault sheet.now.margin sheet.now.width sheet.now.height ≡ Some f) }
 {
     if sheet.width == 0 || sheet.height == 0 {
         return Err(SourceError::EmptyGrid);
@@ -33,8 +35,12 @@ pub fn check_box(sheet: &Sheet) -> Result<(), SourceError>
 fn draw_lines(sheet: Sheet, cells: &mut [u32], lines: &mut Lines<'_>) -> Result<(), SourceError>
     requires sheet { IsSheet sheet cells.old }
     requires within { length lines.old.left ≤ 2147483648 }
-    ensures ok { IfOk result (λ _. rest_of sheet (record { row = 0; column = 0 }) cells.old (marks_from (lines.old.number + 1) (lines_of lines.old.left)) ≡ Ok cells.new) }
-    ensures refused { IfErr result (λ f. rest_of sheet (record { row = 0; column = 0 }) cells.old (marks_from (lines.old.number + 1) (lines_of lines.old.left)) ≡ Err f) }
+    ensures ok { IfOk result
+        (λ _. rest_of sheet (record { row = 0; column = 0 }) cells.old
+        (marks_from (lines.old.number + 1) (lines_of lines.old.left)) ≡ Ok cells.new) }
+    ensures refused { IfErr result
+        (λ f. rest_of sheet (record { row = 0; column = 0 }) cells.old
+        (marks_from (lines.old.number + 1) (lines_of lines.old.left)) ≡ Err f) }
 {
     let mut pen = Pen { row: 0, column: 0 };
     while let Some(line) = lines.next() {
@@ -58,8 +64,12 @@ pub fn read_cells(
     requires sheet { box_fault sheet.margin sheet.width sheet.height ≡ None }
     requires small { sheet.margin ≤ 1000 }
     requires within { length lines.old.left ≤ 2147483648 }
-    ensures ok { IfOk result (λ v. cells_read sheet.margin (sheet_grid sheet) sheet.width sheet.height (marks_from (lines.old.number + 1) (lines_of lines.old.left)) ≡ Ok v.items) }
-    ensures refused { IfErr result (λ f. Refuses (cells_read sheet.margin (sheet_grid sheet) sheet.width sheet.height (marks_from (lines.old.number + 1) (lines_of lines.old.left))) f) }
+    ensures ok { IfOk result
+        (λ v. cells_read sheet.margin (sheet_grid sheet) sheet.width sheet.height
+        (marks_from (lines.old.number + 1) (lines_of lines.old.left)) ≡ Ok v.items) }
+    ensures refused { IfErr result
+        (λ f. Refuses (cells_read sheet.margin (sheet_grid sheet) sheet.width sheet.height
+        (marks_from (lines.old.number + 1) (lines_of lines.old.left))) f) }
 {
     let sites = sheet.full_width() * sheet.full_height();
     let mut cells = vec![in alloc; 0u32; sites as usize].map_err(|_| SourceError::NoMemory)?;

@@ -17,7 +17,8 @@ pub struct Header<'a> {
 
 // What a field gives to a key.
 fn value<'a>(key: &[u8], field: &'a [u8]) -> Option<&'a [u8]>
-    ensures { MatchOption result (value_in key.now field.now ≡ None) (λ r. value_in key.now field.now ≡ Some r.now) }
+    ensures { MatchOption result (value_in key.now field.now ≡ None)
+        (λ r. value_in key.now field.now ≡ Some r.now) }
 {
     let (front, rest) = cut(field, b'=');
     if trim(front) != key {
@@ -40,7 +41,8 @@ fn number(key: &[u8], field: &[u8]) -> Option<u32>
 
 // The rule by the third field, which may be missing.
 fn rule<'a>(field: Option<&'a [u8]>) -> Option<&'a [u8]>
-    ensures { MatchOption result (rule_in (option_map (λ t. t.now) field.entry) ≡ None) (λ r. rule_in (option_map (λ t. t.now) field.entry) ≡ Some r.now) }
+    ensures { MatchOption result (rule_in (option_map (λ t. t.now) field.entry) ≡ None)
+        (λ r. rule_in (option_map (λ t. t.now) field.entry) ≡ Some r.now) }
 {
     match field {
         Some(text) => value(b"rule", text),
@@ -50,7 +52,8 @@ fn rule<'a>(field: Option<&'a [u8]>) -> Option<&'a [u8]>
 
 /// The header that a line spells.
 pub fn read_header(line: &[u8]) -> Option<Header<'_>>
-    ensures { MatchOption result (header_of line.now ≡ None) (λ h. header_of line.now ≡ Some (header_by h)) }
+    ensures { MatchOption result (header_of line.now ≡ None)
+        (λ h. header_of line.now ≡ Some (header_by h)) }
 {
     let (first, behind) = cut(line, b',');
     let width = number(b"x", first)?;

@@ -28,8 +28,14 @@ fn read_box(
 ) -> Result<Automaton<CountLocal>, SourceError>
     requires small { sheet.margin ≤ 1000 }
     requires within { length lines.old.left ≤ 2147483648 }
-    ensures ok { IfOk result (λ a. box_read sheet.margin lines.old.number sheet.kind (counts_on sheet.kind (rule_by rule.now)) sheet.width sheet.height (lines_of lines.old.left) ≡ Ok (universe (plain a.kind a.width a.height) (count_rule a.local) a.edge a.cells.items)) }
-    ensures refused { IfErr result (λ f. Refuses (box_read sheet.margin lines.old.number sheet.kind (counts_on sheet.kind (rule_by rule.now)) sheet.width sheet.height (lines_of lines.old.left)) f) }
+    ensures ok { IfOk result
+        (λ a. box_read sheet.margin lines.old.number sheet.kind
+        (counts_on sheet.kind (rule_by rule.now)) sheet.width sheet.height (lines_of lines.old.left)
+        ≡ Ok (universe (plain a.kind a.width a.height) (count_rule a.local) a.edge a.cells.items)) }
+    ensures refused { IfErr result
+        (λ f. Refuses (box_read sheet.margin lines.old.number sheet.kind
+        (counts_on sheet.kind (rule_by rule.now)) sheet.width sheet.height
+        (lines_of lines.old.left)) f) }
     ensures few { IfOk result (λ a. rule_count (count_rule a.local) ≤ 1048576) }
 {
     check_box(&sheet)?;
@@ -60,8 +66,13 @@ fn read_pattern(
 ) -> Result<Automaton<CountLocal>, SourceError>
     requires small { margin ≤ 1000 }
     requires within { length lines.old.left ≤ 2147483648 }
-    ensures ok { IfOk result (λ a. if_header margin lines.old.number (Some (header_by header.now)) (lines_of lines.old.left) ≡ Ok (universe (plain a.kind a.width a.height) (count_rule a.local) a.edge a.cells.items)) }
-    ensures refused { IfErr result (λ f. Refuses (if_header margin lines.old.number (Some (header_by header.now)) (lines_of lines.old.left)) f) }
+    ensures ok { IfOk result
+        (λ a. if_header margin lines.old.number (Some (header_by header.now))
+        (lines_of lines.old.left)
+        ≡ Ok (universe (plain a.kind a.width a.height) (count_rule a.local) a.edge a.cells.items)) }
+    ensures refused { IfErr result
+        (λ f. Refuses (if_header margin lines.old.number (Some (header_by header.now))
+        (lines_of lines.old.left)) f) }
     ensures few { IfOk result (λ a. rule_count (count_rule a.local) ≤ 1048576) }
 {
     let Some(rule) = read_rule(header.rule) else {
@@ -93,7 +104,9 @@ pub fn read_rle(
     requires small { margin ≤ 1000 }
     requires pattern { is_table bytes.now ≡ false }
     requires within { length bytes.now ≤ 2147483648 }
-    ensures ok { IfOk result (λ a. rle_of margin bytes.now ≡ Ok (universe (plain a.kind a.width a.height) (count_rule a.local) a.edge a.cells.items)) }
+    ensures ok { IfOk result
+        (λ a. rle_of margin bytes.now
+        ≡ Ok (universe (plain a.kind a.width a.height) (count_rule a.local) a.edge a.cells.items)) }
     ensures refused { IfErr result (λ f. Refuses (rle_of margin bytes.now) f) }
     ensures few { IfOk result (λ a. rule_count (count_rule a.local) ≤ 1048576) }
 {

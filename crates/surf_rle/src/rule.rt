@@ -38,7 +38,8 @@ fn suffix_neighbours(suffix: &[u8]) -> Option<Neighbours>
 
 // What follows a first letter.
 fn text_behind(capital: u8, small: u8, text: &[u8]) -> Option<&[u8]>
-    ensures { MatchOption result (behind capital small text.now ≡ None) (λ r. behind capital small text.now ≡ Some r.now) }
+    ensures { MatchOption result (behind capital small text.now ≡ None)
+        (λ r. behind capital small text.now ≡ Some r.now) }
 {
     if text.is_empty() {
         return None;
@@ -83,7 +84,8 @@ fn are_counts(neighbours: Neighbours, digits: &[u8]) -> bool
 
 // The rule of these births, and of what follows its S.
 fn rule_of_parts<'a>(birth: &'a [u8], text: &'a [u8]) -> Option<RuleText<'a>>
-    ensures { MatchOption result (rule_behind birth.now (Some text.now) ≡ None) (λ r. rule_behind birth.now (Some text.now) ≡ Some (rule_by r)) }
+    ensures { MatchOption result (rule_behind birth.now (Some text.now) ≡ None)
+        (λ r. rule_behind birth.now (Some text.now) ≡ Some (rule_by r)) }
 {
     let (survival, suffix) = cut_digits(text);
     let neighbours = suffix_neighbours(suffix)?;
@@ -99,7 +101,8 @@ fn rule_of_parts<'a>(birth: &'a [u8], text: &'a [u8]) -> Option<RuleText<'a>>
 
 /// The rule that a text spells.
 pub fn read_rule(text: &[u8]) -> Option<RuleText<'_>>
-    ensures { MatchOption result (rule_of text.now ≡ None) (λ r. rule_of text.now ≡ Some (rule_by r)) }
+    ensures { MatchOption result (rule_of text.now ≡ None)
+        (λ r. rule_of text.now ≡ Some (rule_by r)) }
 {
     let (front, rest) = cut(text, b'/');
     let birth = text_behind(b'B', b'b', front)?;

@@ -43,7 +43,8 @@ impl Sheet {
 
 fn fill(cells: &mut [u32], from: usize, count: usize)
     requires { from + count ≤ length cells.old }
-    ensures { (k : ℕ) → slice_index cells.new k ≡ (if nat_le from k && nat_lt k (from + count) then 1 else slice_index cells.old k) }
+    ensures { (k : ℕ) → slice_index cells.new k
+        ≡ (if nat_le from k && nat_lt k (from + count) then 1 else slice_index cells.old k) }
 {
     for place in from..from + count {
         cells[place] = 1;
@@ -55,7 +56,9 @@ fn draw_live(sheet: Sheet, pen: Pen, cells: &mut [u32], count: u32)
     requires sheet { IsSheet sheet cells.old }
     requires row { pen.row < sheet.height }
     requires columns { pen.column + count ≤ sheet.width }
-    ensures { (line : ℕ) (ps : List Placed) → over sheet cells.new ps ≡ over sheet cells.old (record { row = pen.row; column = pen.column; mark = mark line (Live count) } ∷ ps) }
+    ensures { (line : ℕ) (ps : List Placed) → over sheet cells.new ps
+        ≡ over sheet cells.old
+        (record { row = pen.row; column = pen.column; mark = mark line (Live count) } ∷ ps) }
 {
     let margin = u64::from(sheet.margin);
     let from = (pen.row + margin) * sheet.full_width() + (pen.column + margin);
@@ -113,9 +116,11 @@ pub fn draw_line(
     requires sheet { IsSheet sheet cells.old }
     requires row { pen.row + 2 ^ 32 * length line.now < 2 ^ 64 }
     requires column { pen.column + 2 ^ 32 * length line.now < 2 ^ 64 }
-    ensures drawn { Draws sheet pen cells.old (map (mark number) (signs_of line.now)) cells.new result }
+    ensures drawn { Draws sheet pen cells.old
+        (map (mark number) (signs_of line.now)) cells.new result }
     ensures row { IfOk result (λ o. IfSome o (λ p. p.row ≤ pen.row + 2 ^ 32 * length line.now)) }
-    ensures column { IfOk result (λ o. IfSome o (λ p. p.column ≤ pen.column + 2 ^ 32 * length line.now)) }
+    ensures column { IfOk result
+        (λ o. IfSome o (λ p. p.column ≤ pen.column + 2 ^ 32 * length line.now)) }
 {
     let mut pen = pen;
     let mut rest = line;

@@ -32,9 +32,12 @@ pub(crate) fn refresh_event<L: Lattice, P: Picker>(world: &World<L>, picker: &mu
     requires first { IsInside world.now.surface.grid event.now.first }
     requires second { IfSome event.now.second (IsInside world.now.surface.grid) }
     requires weights { AreWeights world.now.surface.grid (P.weights picker.old) }
-    ensures set { P.weights picker.new ≡ refreshed world.now.surface world.now.names (around_event world.now.surface.grid event.now) (P.weights picker.old) }
+    ensures set { P.weights picker.new
+        ≡ refreshed world.now.surface world.now.names
+        (around_event world.now.surface.grid event.now) (P.weights picker.old) }
     ensures weights { AreWeights world.now.surface.grid (P.weights picker.new) }
-    ensures once { P.sets picker.new ≤ P.sets picker.old + length (touched world.now.surface.grid event.now) }
+    ensures once { P.sets picker.new ≤ P.sets picker.old + length
+        (touched world.now.surface.grid event.now) }
     ensures sets { P.sets picker.new ≤ P.sets picker.old + 14 }
     ensures counted { P.sets picker.old ≤ P.sets picker.new }
 {
@@ -45,10 +48,14 @@ pub(crate) fn refresh_event<L: Lattice, P: Picker>(world: &World<L>, picker: &mu
 fn refresh_around<L: Lattice, P: Picker>(world: &World<L>, picker: &mut P, site: Site)
     requires site { IsInside world.now.surface.grid site }
     requires weights { AreWeights world.now.surface.grid (P.weights picker.old) }
-    ensures set { P.weights picker.new ≡ refreshed world.now.surface world.now.names (around world.now.surface.grid site) (P.weights picker.old) }
+    ensures set { P.weights picker.new
+        ≡ refreshed world.now.surface world.now.names (around world.now.surface.grid site)
+        (P.weights picker.old) }
     ensures weights { AreWeights world.now.surface.grid (P.weights picker.new) }
-    ensures right { AreRight world.now.surface world.now.names (around world.now.surface.grid site) (P.weights picker.new) }
-    ensures sets { P.sets picker.new ≤ P.sets picker.old + length (around world.now.surface.grid site) }
+    ensures right { AreRight world.now.surface world.now.names (around world.now.surface.grid site)
+        (P.weights picker.new) }
+    ensures sets { P.sets picker.new ≤ P.sets picker.old + length
+        (around world.now.surface.grid site) }
     ensures counted { P.sets picker.old ≤ P.sets picker.new }
 {
     refresh(world, picker, site);
@@ -60,7 +67,8 @@ fn refresh_around<L: Lattice, P: Picker>(world: &World<L>, picker: &mut P, site:
 fn refresh_some<L: Lattice, P: Picker>(world: &World<L>, picker: &mut P, site: Option<Site>)
     requires site { IfSome site (IsInside world.now.surface.grid) }
     requires weights { AreWeights world.now.surface.grid (P.weights picker.old) }
-    ensures set { P.weights picker.new ≡ refreshed world.now.surface world.now.names (option_to_list site) (P.weights picker.old) }
+    ensures set { P.weights picker.new
+        ≡ refreshed world.now.surface world.now.names (option_to_list site) (P.weights picker.old) }
     ensures weights { AreWeights world.now.surface.grid (P.weights picker.new) }
     ensures sets { P.sets picker.new ≤ P.sets picker.old + length (option_to_list site) }
     ensures counted { P.sets picker.old ≤ P.sets picker.new }
@@ -73,7 +81,9 @@ fn refresh_some<L: Lattice, P: Picker>(world: &World<L>, picker: &mut P, site: O
 pub(crate) fn refresh<L: Lattice, P: Picker>(world: &World<L>, picker: &mut P, site: Site)
     requires site { IsInside world.now.surface.grid site }
     requires weights { AreWeights world.now.surface.grid (P.weights picker.old) }
-    ensures set { P.weights picker.new ≡ slice_set (P.weights picker.old) (place world.now.surface.grid site) (weight_of world.now.surface world.now.names site) }
+    ensures set { P.weights picker.new
+        ≡ slice_set (P.weights picker.old) (place world.now.surface.grid site)
+        (weight_of world.now.surface world.now.names site) }
     ensures weights { AreWeights world.now.surface.grid (P.weights picker.new) }
     ensures sets { P.sets picker.new ≤ P.sets picker.old + 1 }
     ensures counted { P.sets picker.old ≤ P.sets picker.new }

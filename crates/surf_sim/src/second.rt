@@ -21,10 +21,15 @@ pub(crate) fn refresh_second<L: Lattice, P: Picker>(
     requires first { IsInside world.now.surface.grid first }
     requires second { IfSome second (IsInside world.now.surface.grid) }
     requires weights { AreWeights world.now.surface.grid (P.weights picker.old) }
-    requires right { AreRight world.now.surface world.now.names (around world.now.surface.grid first) (P.weights picker.old) }
-    ensures set { P.weights picker.new ≡ refreshed world.now.surface world.now.names (flat_map (around world.now.surface.grid) (option_to_list second)) (P.weights picker.old) }
+    requires right { AreRight world.now.surface world.now.names
+        (around world.now.surface.grid first) (P.weights picker.old) }
+    ensures set { P.weights picker.new
+        ≡ refreshed world.now.surface world.now.names
+        (flat_map (around world.now.surface.grid) (option_to_list second)) (P.weights picker.old) }
     ensures weights { AreWeights world.now.surface.grid (P.weights picker.new) }
-    ensures sets { P.sets picker.new ≤ P.sets picker.old + length (filter (is_new world.now.surface.grid first) (flat_map (around world.now.surface.grid) (option_to_list second))) }
+    ensures sets { P.sets picker.new ≤ P.sets picker.old + length
+        (filter (is_new world.now.surface.grid first)
+        (flat_map (around world.now.surface.grid) (option_to_list second))) }
     ensures counted { P.sets picker.old ≤ P.sets picker.new }
 {
     if let Some(second) = second {
@@ -36,10 +41,14 @@ fn refresh_rest<L: Lattice, P: Picker>(world: &World<L>, picker: &mut P, first: 
     requires first { IsInside world.now.surface.grid first }
     requires second { IsInside world.now.surface.grid second }
     requires weights { AreWeights world.now.surface.grid (P.weights picker.old) }
-    requires right { AreRight world.now.surface world.now.names (around world.now.surface.grid first) (P.weights picker.old) }
-    ensures set { P.weights picker.new ≡ refreshed world.now.surface world.now.names (around world.now.surface.grid second) (P.weights picker.old) }
+    requires right { AreRight world.now.surface world.now.names
+        (around world.now.surface.grid first) (P.weights picker.old) }
+    ensures set { P.weights picker.new
+        ≡ refreshed world.now.surface world.now.names (around world.now.surface.grid second)
+        (P.weights picker.old) }
     ensures weights { AreWeights world.now.surface.grid (P.weights picker.new) }
-    ensures sets { P.sets picker.new ≤ P.sets picker.old + length (filter (is_new world.now.surface.grid first) (around world.now.surface.grid second)) }
+    ensures sets { P.sets picker.new ≤ P.sets picker.old + length
+        (filter (is_new world.now.surface.grid first) (around world.now.surface.grid second)) }
     ensures counted { P.sets picker.old ≤ P.sets picker.new }
 {
     refresh_new(world, picker, first, second);
@@ -62,11 +71,15 @@ fn refresh_new_some<L: Lattice, P: Picker>(
     requires first { IsInside world.now.surface.grid first }
     requires site { IfSome site (IsInside world.now.surface.grid) }
     requires weights { AreWeights world.now.surface.grid (P.weights picker.old) }
-    requires right { AreRight world.now.surface world.now.names (around world.now.surface.grid first) (P.weights picker.old) }
-    ensures set { P.weights picker.new ≡ refreshed world.now.surface world.now.names (option_to_list site) (P.weights picker.old) }
+    requires right { AreRight world.now.surface world.now.names
+        (around world.now.surface.grid first) (P.weights picker.old) }
+    ensures set { P.weights picker.new
+        ≡ refreshed world.now.surface world.now.names (option_to_list site) (P.weights picker.old) }
     ensures weights { AreWeights world.now.surface.grid (P.weights picker.new) }
-    ensures right { AreRight world.now.surface world.now.names (around world.now.surface.grid first) (P.weights picker.new) }
-    ensures sets { P.sets picker.new ≤ P.sets picker.old + length (filter (is_new world.now.surface.grid first) (option_to_list site)) }
+    ensures right { AreRight world.now.surface world.now.names (around world.now.surface.grid first)
+        (P.weights picker.new) }
+    ensures sets { P.sets picker.new ≤ P.sets picker.old + length
+        (filter (is_new world.now.surface.grid first) (option_to_list site)) }
     ensures counted { P.sets picker.old ≤ P.sets picker.new }
 {
     if let Some(site) = site {
@@ -78,11 +91,16 @@ fn refresh_new<L: Lattice, P: Picker>(world: &World<L>, picker: &mut P, first: S
     requires first { IsInside world.now.surface.grid first }
     requires site { IsInside world.now.surface.grid site }
     requires weights { AreWeights world.now.surface.grid (P.weights picker.old) }
-    requires right { AreRight world.now.surface world.now.names (around world.now.surface.grid first) (P.weights picker.old) }
-    ensures set { P.weights picker.new ≡ slice_set (P.weights picker.old) (place world.now.surface.grid site) (weight_of world.now.surface world.now.names site) }
+    requires right { AreRight world.now.surface world.now.names
+        (around world.now.surface.grid first) (P.weights picker.old) }
+    ensures set { P.weights picker.new
+        ≡ slice_set (P.weights picker.old) (place world.now.surface.grid site)
+        (weight_of world.now.surface world.now.names site) }
     ensures weights { AreWeights world.now.surface.grid (P.weights picker.new) }
-    ensures right { AreRight world.now.surface world.now.names (around world.now.surface.grid first) (P.weights picker.new) }
-    ensures sets { P.sets picker.new ≤ P.sets picker.old + length (filter (is_new world.now.surface.grid first) (site ∷ [])) }
+    ensures right { AreRight world.now.surface world.now.names (around world.now.surface.grid first)
+        (P.weights picker.new) }
+    ensures sets { P.sets picker.new ≤ P.sets picker.old + length
+        (filter (is_new world.now.surface.grid first) (site ∷ [])) }
     ensures counted { P.sets picker.old ≤ P.sets picker.new }
 {
     if is_new(world.grid(), first, site) {

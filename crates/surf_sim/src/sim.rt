@@ -35,7 +35,8 @@ impl<L: Lattice, P: Picker> Model for Sim<L, P> {
 impl<L: Lattice + Drop, P: Picker> Sim<L, P> {
     /// A simulation that begins with this world and these draws. Both are given up on `NoMemory`.
     pub fn new(alloc: Global, world: World<L>, draw: Draw) -> Result<Sim<L, P>, NoMemory>
-        ensures { IfOk result (λ s. s ≡ record { placed = world; weights = weights_of world; sets = 0; generator = draw }) }
+        ensures { IfOk result (λ s. s
+            ≡ record { placed = world; weights = weights_of world; sets = 0; generator = draw }) }
     {
         let weights = weights(alloc, &world)?;
         let picker = P::build(alloc, weights)?;
@@ -71,7 +72,8 @@ impl<L: Lattice, P: Picker> Sim<L, P> {
         ensures step { IsStep self.old self.new result }
         ensures enabled { IfSome result (Enabled self.old.placed.surface self.old.placed.names) }
         ensures stuck { IfNone result (Stuck self.old.placed.surface self.old.placed.names) }
-        ensures once { IfSome result (λ e. self.new.sets ≤ self.old.sets + length (touched self.old.placed.surface.grid e)) }
+        ensures once { IfSome result
+            (λ e. self.new.sets ≤ self.old.sets + length (touched self.old.placed.surface.grid e)) }
         ensures few { self.new.sets ≤ self.old.sets + 14 }
         ensures counted { self.old.sets ≤ self.new.sets }
     {

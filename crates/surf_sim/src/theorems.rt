@@ -15,15 +15,28 @@ ghost use Rattle.surf_sim.specs.Touched.{touched, IsOnceEach};
 /// same. The sites of which an event sets the weights again are those of the event and their
 /// neighbours, each once and at most fourteen.
 pub fn simulation_laws()
-    ensures idle { (S : Surface ℕ) (c : List ℕ) (s : Stream) → (next_of nat_eq S c s ≡ None) ↔ Stuck S c }
-    ensures enabled { (S : Surface ℕ) (c : List ℕ) (s : Stream) (t : Stream) (e : Event) → next_of nat_eq S c s ≡ Some (e, t) → Enabled S c e }
-    ensures none { (S : Surface ℕ) (c : List ℕ) (s : Stream) (n : ℕ) → next_of nat_eq S c s ≡ None → sim_events nat_eq S c s n ≡ [] }
-    ensures some { (S : Surface ℕ) (c : List ℕ) (s : Stream) (t : Stream) (e : Event) (n : ℕ) → next_of nat_eq S c s ≡ Some (e, t) → sim_events nat_eq S c s (suc n) ≡ e ∷ sim_events nat_eq S (after S c e) t n }
-    ensures runs { (S : Surface ℕ) (c : List ℕ) (s : Stream) (n : ℕ) → IsRun S c (sim_events nat_eq S c s n) }
-    ensures few { (S : Surface ℕ) (c : List ℕ) (s : Stream) (n : ℕ) → length (sim_events nat_eq S c s n) ≤ n }
-    ensures stuck { (S : Surface ℕ) (c : List ℕ) (s : Stream) (n : ℕ) → length (sim_events nat_eq S c s n) < n → Stuck S (left_by S c (sim_events nat_eq S c s n)) }
-    ensures renamed { (f : ℕ → List ℕ) (k : ℕ) (S : Surface ℕ) (c : List ℕ) (s : Stream) (n : ℕ) → IsOneToOne k f → AreBelow k S c → sim_events bytes_eq (renamed f S) (map f c) s n ≡ sim_events nat_eq S c s n }
-    ensures touched { (g : Grid) (e : Event) (p : Site) → Contains (touched g e) p ↔ Contains (around_event g e) p }
-    ensures once { (g : Grid) (e : Event) → IsGrid g → IsInside g e.first → IfSome e.second (IsInside g) → IsOnceEach (touched g e) }
+    ensures idle { (S : Surface ℕ) (c : List ℕ) (s : Stream)
+        → (next_of nat_eq S c s ≡ None) ↔ Stuck S c }
+    ensures enabled { (S : Surface ℕ) (c : List ℕ) (s : Stream) (t : Stream) (e : Event)
+        → next_of nat_eq S c s ≡ Some (e, t) → Enabled S c e }
+    ensures none { (S : Surface ℕ) (c : List ℕ) (s : Stream) (n : ℕ) → next_of nat_eq S c s ≡ None
+        → sim_events nat_eq S c s n ≡ [] }
+    ensures some { (S : Surface ℕ) (c : List ℕ) (s : Stream) (t : Stream) (e : Event) (n : ℕ)
+        → next_of nat_eq S c s ≡ Some (e, t) → sim_events nat_eq S c s (suc n)
+        ≡ e ∷ sim_events nat_eq S (after S c e) t n }
+    ensures runs { (S : Surface ℕ) (c : List ℕ) (s : Stream) (n : ℕ)
+        → IsRun S c (sim_events nat_eq S c s n) }
+    ensures few { (S : Surface ℕ) (c : List ℕ) (s : Stream) (n : ℕ)
+        → length (sim_events nat_eq S c s n) ≤ n }
+    ensures stuck { (S : Surface ℕ) (c : List ℕ) (s : Stream) (n : ℕ)
+        → length (sim_events nat_eq S c s n) < n
+        → Stuck S (left_by S c (sim_events nat_eq S c s n)) }
+    ensures renamed { (f : ℕ → List ℕ) (k : ℕ) (S : Surface ℕ) (c : List ℕ) (s : Stream) (n : ℕ)
+        → IsOneToOne k f → AreBelow k S c → sim_events bytes_eq (renamed f S) (map f c) s n
+        ≡ sim_events nat_eq S c s n }
+    ensures touched { (g : Grid) (e : Event) (p : Site)
+        → Contains (touched g e) p ↔ Contains (around_event g e) p }
+    ensures once { (g : Grid) (e : Event) → IsGrid g → IsInside g e.first
+        → IfSome e.second (IsInside g) → IsOnceEach (touched g e) }
     ensures at_most { (g : Grid) (e : Event) → length (touched g e) ≤ 14 }
 {}

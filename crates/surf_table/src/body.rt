@@ -20,15 +20,13 @@ pub(crate) fn read_next(
     sums: u32,
     states: u32,
 ) -> Result<Vec<u32>, SourceError>
-    ensures ok { IfOk result (λ next. read_next sums states lines.old ≡ Ok (next.items, lines.new)) }
+    ensures ok { IfOk result
+        (λ next. read_next sums states lines.old ≡ Ok (next.items, lines.new)) }
     ensures refused { IfErr result (λ f. Refuses (read_next sums states lines.old) f) }
 {
     let mut next = Vec::new(alloc);
     for own in 0..states {
-        match read_next_states(&mut next, lines, own, sums, states) {
-            Ok(()) => {}
-            Err(fault) => return Err(fault),
-        }
+        read_next_states(&mut next, lines, own, sums, states)?;
     }
     Ok(next)
 }
@@ -36,7 +34,8 @@ pub(crate) fn read_next(
 /// The width and the height, which fit with a margin of at most 1,000 round them.
 pub(crate) fn read_size(lines: &mut Lines<'_>, margin: u32) -> Result<(u32, u32), SourceError>
     requires { margin ≤ 1000 }
-    ensures ok { IfOk result (λ size. read_size margin lines.old ≡ Ok ((size.0, size.1), lines.new)) }
+    ensures ok { IfOk result
+        (λ size. read_size margin lines.old ≡ Ok ((size.0, size.1), lines.new)) }
     ensures refused { IfErr result (λ f. Refuses (read_size margin lines.old) f) }
 {
     let Some(line) = lines.next() else {
@@ -73,7 +72,9 @@ fn add_row(
     margin: u32,
     edge: u32,
 ) -> Result<(), SourceError>
-    ensures ok { IfOk result (λ _. each_kept_with (widened margin edge) cells.old.items (read (row_line states width) lines.old) ≡ Ok (cells.new.items, lines.new)) }
+    ensures ok { IfOk result
+        (λ _. each_kept_with (widened margin edge) cells.old.items
+        (read (row_line states width) lines.old) ≡ Ok (cells.new.items, lines.new)) }
     ensures refused { IfErr result (λ f. Refuses (read (row_line states width) lines.old) f) }
 {
     add_edge(cells, margin, edge).map_err(|_| SourceError::NoMemory)?;
@@ -112,15 +113,16 @@ fn add_rows(
     margin: u32,
     edge: u32,
 ) -> Result<(), SourceError>
-    ensures ok { IfOk result (λ _. all_kept_with (widened margin edge) cells.old.items (read_all (row_lines states (size.0, size.1)) lines.old) ≡ Ok (cells.new.items, lines.new)) }
-    ensures refused { IfErr result (λ f. Refuses (read_all (row_lines states (size.0, size.1)) lines.old) f) }
+    ensures ok { IfOk result
+        (λ _. all_kept_with (widened margin edge) cells.old.items
+        (read_all (row_lines states (size.0, size.1)) lines.old)
+        ≡ Ok (cells.new.items, lines.new)) }
+    ensures refused { IfErr result
+        (λ f. Refuses (read_all (row_lines states (size.0, size.1)) lines.old) f) }
 {
     let (width, height) = size;
     for _y in 0..height {
-        match add_row(cells, lines, width, states, margin, edge) {
-            Ok(()) => {}
-            Err(fault) => return Err(fault),
-        }
+        add_row(cells, lines, width, states, margin, edge)?;
     }
     Ok(())
 }
@@ -135,8 +137,11 @@ pub(crate) fn read_cells(
     edge: u32,
 ) -> Result<Vec<u32>, SourceError>
     requires { margin * (size.0 + 2 * margin) < 2 ^ 32 }
-    ensures ok { IfOk result (λ cells. read_cells margin edge states (size.0, size.1) lines.old ≡ Ok (cells.items, lines.new)) }
-    ensures refused { IfErr result (λ f. Refuses (read_cells margin edge states (size.0, size.1) lines.old) f) }
+    ensures ok { IfOk result
+        (λ cells. read_cells margin edge states (size.0, size.1) lines.old
+        ≡ Ok (cells.items, lines.new)) }
+    ensures refused { IfErr result
+        (λ f. Refuses (read_cells margin edge states (size.0, size.1) lines.old) f) }
 {
     let mut cells = Vec::new(alloc);
     let around = margin * (size.0 + 2 * margin);

@@ -109,7 +109,8 @@ fn read_edge(lines: &mut Lines<'_>, states: u32) -> Result<u32, SourceError>
 }
 
 fn read_weights(alloc: Global, lines: &mut Lines<'_>, states: u32) -> Result<Vec<u32>, SourceError>
-    ensures ok { IfOk result (λ ws. read (weights_line states) lines.old ≡ Ok (ws.items, lines.new)) }
+    ensures ok { IfOk result
+        (λ ws. read (weights_line states) lines.old ≡ Ok (ws.items, lines.new)) }
     ensures refused { IfErr result (λ f. Refuses (read (weights_line states) lines.old) f) }
 {
     let mut weights = Vec::new(alloc);

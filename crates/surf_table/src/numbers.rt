@@ -21,8 +21,11 @@ pub(crate) fn read_numbers(
     limit: u64,
 ) -> Result<(), SourceError>
     requires { limit ≤ 2 ^ 32 }
-    ensures ok { IfOk result (λ _. kept_with kept.old.items (read (numbers_line key.now count limit) lines.old) ≡ Ok (kept.new.items, lines.new)) }
-    ensures refused { IfErr result (λ f. Refuses (read (numbers_line key.now count limit) lines.old) f) }
+    ensures ok { IfOk result
+        (λ _. kept_with kept.old.items (read (numbers_line key.now count limit) lines.old)
+        ≡ Ok (kept.new.items, lines.new)) }
+    ensures refused { IfErr result
+        (λ f. Refuses (read (numbers_line key.now count limit) lines.old) f) }
 {
     let Some(line) = lines.next() else {
         return Err(SourceError::Unclosed);
@@ -46,7 +49,9 @@ pub(crate) fn read_next_states(
     sums: u32,
     states: u32,
 ) -> Result<(), SourceError>
-    ensures ok { IfOk result (λ _. kept_with kept.old.items (read (next_line sums states own) lines.old) ≡ Ok (kept.new.items, lines.new)) }
+    ensures ok { IfOk result
+        (λ _. kept_with kept.old.items (read (next_line sums states own) lines.old)
+        ≡ Ok (kept.new.items, lines.new)) }
     ensures refused { IfErr result (λ f. Refuses (read (next_line sums states own) lines.old) f) }
 {
     let Some(line) = lines.next() else {

@@ -29,7 +29,9 @@ fn automaton(
     requires size { IsSize margin (size.0, size.1) }
     requires cells { AreCells margin (head_by header) (size.0, size.1) cells.items }
     ensures few_rules { rule_count (table_rule result.local) ≤ 1048576 }
-    ensures universe { universe (plain result.kind result.width result.height) (table_rule result.local) result.edge result.cells.items ≡ automaton_of margin (head_by header) next.items (size.0, size.1) cells.items }
+    ensures universe { universe (plain result.kind result.width result.height)
+        (table_rule result.local) result.edge result.cells.items
+        ≡ automaton_of margin (head_by header) next.items (size.0, size.1) cells.items }
 {
     let local = TableLocal::new(header.degree, header.weights, next);
     let kind = if local.degree() == 6 {
@@ -59,7 +61,9 @@ pub fn read_table(
     requires margin { margin ≤ 1000 }
     requires table { is_table bytes.now ≡ true }
     requires few_bytes { length bytes.now ≤ 2147483648 }
-    ensures ok { IfOk result (λ a. table_of margin bytes.now ≡ Ok (universe (plain a.kind a.width a.height) (table_rule a.local) a.edge a.cells.items)) }
+    ensures ok { IfOk result
+        (λ a. table_of margin bytes.now
+        ≡ Ok (universe (plain a.kind a.width a.height) (table_rule a.local) a.edge a.cells.items)) }
     ensures refused { IfErr result (λ f. Refuses (table_of margin bytes.now) f) }
     ensures few_rules { IfOk result (λ a. rule_count (table_rule a.local) ≤ 1048576) }
 {

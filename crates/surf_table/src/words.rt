@@ -55,8 +55,12 @@ pub(crate) fn add_numbers(
     limit: u64,
 ) -> Result<(), SourceError>
     requires { limit ≤ 2 ^ 32 }
-    ensures ok { IfOk result (λ _. onto kept.old.items (numbers count limit (tokens_of rest.now)) ≡ Some kept.new.items) }
-    ensures refused { IfErr result (λ f. (ls : List SpecLine) → Refuses (read_line line ls (numbers count limit (tokens_of rest.now))) f) }
+    ensures ok { IfOk result
+        (λ _. onto kept.old.items (numbers count limit (tokens_of rest.now))
+        ≡ Some kept.new.items) }
+    ensures refused { IfErr result
+        (λ f. (ls : List SpecLine)
+        → Refuses (read_line line ls (numbers count limit (tokens_of rest.now))) f) }
 {
     let mut words = rest;
     let mut left = count;

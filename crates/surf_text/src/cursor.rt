@@ -59,10 +59,12 @@ impl<'a> Lines<'a> {
 
     /// Takes the next line.
     pub fn next(&mut self) -> Option<&'a [u8]>
-        ensures line { IfSome result (λ t. lines_of self.old.left ≡ t.now ∷ lines_of self.new.left) }
+        ensures line { IfSome result
+            (λ t. lines_of self.old.left ≡ t.now ∷ lines_of self.new.left) }
         ensures number { IfSome result (λ t. self.new.number ≡ self.old.number + 1) }
         ensures shorter { IfSome result (λ t. length self.new.left < length self.old.left) }
-        ensures part { IfSome result (λ t. length t.now + length self.new.left ≤ length self.old.left) }
+        ensures part { IfSome result
+            (λ t. length t.now + length self.new.left ≤ length self.old.left) }
         ensures end { IfNone result (self.old.left ≡ []) }
         ensures stays { IfNone result (self.new ≡ self.old) }
     {
@@ -78,12 +80,21 @@ impl<'a> Lines<'a> {
     /// Takes lines up to the next one that is not passed over, and answers that one without the
     /// blanks at its ends.
     pub fn next_kept<S: Skip>(&mut self) -> Option<&'a [u8]>
-        ensures line { IfSome result (λ t. first_kept S.skipped self.old.number (lines_of self.old.left) ≡ Some (record { line = t.now; number = self.new.number; behind = lines_of self.new.left })) }
+        ensures line { IfSome result
+            (λ t. first_kept S.skipped self.old.number (lines_of self.old.left)
+            ≡ Some (record {
+              line = t.now;
+              number = self.new.number;
+              behind = lines_of self.new.left;
+            })) }
         ensures shorter { IfSome result (λ t. length self.new.left < length self.old.left) }
-        ensures within { self.new.number + length self.new.left ≤ self.old.number + length self.old.left }
-        ensures none { IfNone result (first_kept S.skipped self.old.number (lines_of self.old.left) ≡ None) }
+        ensures within { self.new.number + length self.new.left
+            ≤ self.old.number + length self.old.left }
+        ensures none { IfNone result
+            (first_kept S.skipped self.old.number (lines_of self.old.left) ≡ None) }
         ensures end { IfNone result (self.new.left ≡ []) }
-        ensures counted { IfNone result (self.new.number ≡ self.old.number + length (lines_of self.old.left)) }
+        ensures counted { IfNone result
+            (self.new.number ≡ self.old.number + length (lines_of self.old.left)) }
     {
         while let Some(line) = self.next() {
             let content = trim(line);

@@ -43,7 +43,8 @@ pub fn trim(line: &[u8]) -> &[u8]
 /// What stands before the first such byte, and what follows it.
 pub fn cut(text: &[u8], sign: u8) -> (&[u8], Option<&[u8]>)
     ensures front { result.0.now ≡ before sign text.now }
-    ensures rest { MatchOption result.1 (after sign text.now ≡ None) (λ r. after sign text.now ≡ Some r.now) }
+    ensures rest { MatchOption result.1 (after sign text.now ≡ None)
+        (λ r. after sign text.now ≡ Some r.now) }
 {
     for (i, byte) in text.iter().enumerate() {
         if *byte == sign {

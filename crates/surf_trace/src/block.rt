@@ -1,5 +1,5 @@
 // The trace block of a text.
-ghost use Rattle.std.specs.Prelude.{◌≡◌, ◌+◌, ◌<◌, ◌≤◌, ◌^◌, [], Ok, Err, IfOk, IfErr, IfSome, IfNone, length};
+ghost use Rattle.std.specs.Prelude.{◌≡◌, ◌+◌, ◌<◌, [], Ok, Err, IfOk, IfErr, IfSome, IfNone};
 ghost use Rattle.surf_text.specs.Bytes.{lines_of};
 ghost use Rattle.surf_trace.specs.TraceTexts.{block_of, is_skipped, trace_of, Refuses};
 
@@ -11,7 +11,8 @@ use surf_world::Event;
 
 // The lines behind the one that opens the block.
 fn find_block(text: &[u8]) -> Option<Lines<'_>>
-    ensures some { IfSome result (λ r. trace_of text.now ≡ block_of r.number r.number [] (lines_of r.left)) }
+    ensures some { IfSome result
+        (λ r. trace_of text.now ≡ block_of r.number r.number [] (lines_of r.left)) }
     ensures none { IfNone result (trace_of text.now ≡ Err TraceError.NoTrace) }
 {
     let mut lines = Lines::new(text, 0);
@@ -31,8 +32,11 @@ fn is_skipped_line(line: &[u8]) -> bool
 
 // The events of the block that the last line opened, from the lines behind it.
 fn read_block(alloc: Global, lines: &mut Lines<'_>) -> Result<Vec<Event>, TraceError>
-    ensures ok { IfOk result (λ v. block_of lines.old.number lines.old.number [] (lines_of lines.old.left) ≡ Ok v.items) }
-    ensures refused { IfErr result (λ f. Refuses (block_of lines.old.number lines.old.number [] (lines_of lines.old.left)) f) }
+    ensures ok { IfOk result
+        (λ v. block_of lines.old.number lines.old.number [] (lines_of lines.old.left)
+        ≡ Ok v.items) }
+    ensures refused { IfErr result
+        (λ f. Refuses (block_of lines.old.number lines.old.number [] (lines_of lines.old.left)) f) }
 {
     let opened = lines.number();
     let mut events = Vec::new(alloc);

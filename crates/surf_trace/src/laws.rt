@@ -6,5 +6,6 @@ ghost use Rattle.surf_trace.specs.TraceTexts.{trace_of, IsShort};
 
 /// The trace block of any events is read as these events, whatever follows it.
 pub fn trace_is_read()
-    ensures { (es : List Event) (rest : List ℕ) → length es < 2 ^ 64 → All IsShort es → trace_of (trace_text es ++ rest) ≡ Ok es }
+    ensures { (es : List Event) (rest : List ℕ) → length es < 2 ^ 64 → All IsShort es
+        → trace_of (trace_text es ++ rest) ≡ Ok es }
 {}

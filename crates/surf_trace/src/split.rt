@@ -8,7 +8,9 @@ use surf_text::trim;
 // The place of the first line feed.
 fn line_feed(text: &[u8]) -> Option<usize>
     ensures within { IfSome result (λ i. i < length text.now) }
-    ensures line { IfSome result (λ i. (after : List ℕ) → lines_of (take (i + 1) text.now ++ after) ≡ take i text.now ∷ lines_of after) }
+    ensures line { IfSome result
+        (λ i. (after : List ℕ) → lines_of (take (i + 1) text.now ++ after)
+        ≡ take i text.now ∷ lines_of after) }
     ensures none { IfNone result (0 < length text.now → lines_of text.now ≡ text.now ∷ []) }
 {
     for (i, byte) in text.iter().enumerate() {

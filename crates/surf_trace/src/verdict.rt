@@ -18,7 +18,9 @@ pub enum Verdict {
 /// nothing. Takes no memory.
 pub fn replay<L: Lattice>(world: &mut World<L>, events: &[Event]) -> Verdict
     ensures valid { (result ≡ Verdict.Valid) ↔ IsRun world.old.surface world.old.names events.now }
-    ensures not_enabled { (k : ℕ) → (result ≡ Verdict.NotEnabled k) ↔ FirstBad world.old.surface world.old.names events.now k }
+    ensures not_enabled { (k : ℕ)
+        → (result ≡ Verdict.NotEnabled k)
+        ↔ FirstBad world.old.surface world.old.names events.now k }
     ensures left { world.new ≡ left_world world.old (taken events.now result) }
 {
     for (i, event) in events.iter().enumerate() {

@@ -1,7 +1,7 @@
 -- No event begins at a site outside.
 use Rattle.std.specs.Prelude.{Contains}
 use Rattle.std.specs.List.{sum_by}
-use Rattle.std.proofs.Common.{ℕ, ◌≡◌, ◌<◌, List, [], length, ap, subst, nat_eq}
+use Rattle.std.proofs.Common.{ℕ, ◌≡◌, ◌<◌, List, length, ap, subst, nat_eq}
 use Rattle.surf_lattice.specs.declared.site.Site.{Site}
 use Rattle.surf_lattice.specs.Grids.{IsInside}
 use Rattle.surf_world.specs.declared.event.Event.{Event}

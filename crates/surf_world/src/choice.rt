@@ -11,7 +11,8 @@ impl<L: Lattice> World<L> {
     // The rules that are enabled at this site alone.
     fn rules_at(&self, site: Site) -> &[u32]
         requires { IsInside self.now.surface.grid site }
-        ensures events { events_on (enabled_test nat_eq self.now.surface self.now.names) (length self.now.surface.rules) site None ≡ map (event_of site None) result.now }
+        ensures events { events_on (enabled_test nat_eq self.now.surface self.now.names)
+            (length self.now.surface.rules) site None ≡ map (event_of site None) result.now }
         ensures known { All (λ k. k < length self.now.surface.rules) result.now }
         ensures few { length result.now ≤ 1048576 }
     {
@@ -21,7 +22,9 @@ impl<L: Lattice> World<L> {
     // The rules that are enabled at these two sites in this order.
     fn rules_between(&self, first: Site, second: Site) -> &[u32]
         requires { Adjacent self.now.surface.grid first second }
-        ensures events { events_on (enabled_test nat_eq self.now.surface self.now.names) (length self.now.surface.rules) first (Some second) ≡ map (event_of first (Some second)) result.now }
+        ensures events { events_on (enabled_test nat_eq self.now.surface self.now.names)
+            (length self.now.surface.rules) first (Some second)
+            ≡ map (event_of first (Some second)) result.now }
         ensures known { All (λ k. k < length self.now.surface.rules) result.now }
         ensures few { length result.now ≤ 1048576 }
     {
@@ -53,7 +56,8 @@ impl<L: Lattice> World<L> {
         r: u128,
     ) -> Result<Event, u128>
         requires { All (λ k. k < length self.now.surface.rules) numbers.now }
-        ensures { Picked (rate_of self.now.surface) (map (event_of first second) numbers.now) r result }
+        ensures { Picked (rate_of self.now.surface)
+            (map (event_of first second) numbers.now) r result }
     {
         let book = self.book();
         let mut rest = r;
@@ -74,7 +78,9 @@ impl<L: Lattice> World<L> {
     fn weight_toward(&self, site: Site, direction: u32) -> u128
         requires site { IsInside self.now.surface.grid site }
         requires direction { direction < degree self.now.surface.grid.kind }
-        ensures sum { result ≡ sum_by (rate_of self.now.surface) (events_toward (enabled_test nat_eq self.now.surface self.now.names) (length self.now.surface.rules) site (neighbour self.now.surface.grid site direction)) }
+        ensures sum { result ≡ sum_by (rate_of self.now.surface)
+            (events_toward (enabled_test nat_eq self.now.surface self.now.names)
+            (length self.now.surface.rules) site (neighbour self.now.surface.grid site direction)) }
         ensures bound { result ≤ 1048576 * 1000000000000 }
     {
         match self.grid().neighbour(site, direction) {
@@ -103,7 +109,10 @@ impl<L: Lattice> World<L> {
     fn nth_toward(&self, site: Site, direction: u32, r: u128) -> Result<Event, u128>
         requires site { IsInside self.now.surface.grid site }
         requires direction { direction < degree self.now.surface.grid.kind }
-        ensures { Picked (rate_of self.now.surface) (events_toward (enabled_test nat_eq self.now.surface self.now.names) (length self.now.surface.rules) site (neighbour self.now.surface.grid site direction)) r result }
+        ensures { Picked (rate_of self.now.surface)
+            (events_toward (enabled_test nat_eq self.now.surface self.now.names)
+            (length self.now.surface.rules) site
+            (neighbour self.now.surface.grid site direction)) r result }
     {
         match self.grid().neighbour(site, direction) {
             Some(second) => self.nth_of(self.rules_between(site, second), site, Some(second), r),
@@ -116,7 +125,8 @@ impl<L: Lattice> World<L> {
     /// below the site's weight, an event begins there, and so the site is inside.
     pub fn nth_at(&self, site: Site, r: u128) -> Event
         requires { r < weight_of self.now.surface self.now.names site }
-        ensures { pick (rate_of self.now.surface) (choices_at nat_eq self.now.surface self.now.names site) r ≡ Some result }
+        ensures { pick (rate_of self.now.surface)
+            (choices_at nat_eq self.now.surface self.now.names site) r ≡ Some result }
     {
         let mut rest = match self.nth_of(self.rules_at(site), site, None, r) {
             Ok(event) => return event,
@@ -134,7 +144,10 @@ impl<L: Lattice> World<L> {
     fn is_idle_toward(&self, site: Site, direction: u32) -> bool
         requires site { IsInside self.now.surface.grid site }
         requires direction { direction < degree self.now.surface.grid.kind }
-        ensures { IsTrue result ↔ (events_toward (enabled_test nat_eq self.now.surface self.now.names) (length self.now.surface.rules) site (neighbour self.now.surface.grid site direction) ≡ []) }
+        ensures { IsTrue result
+            ↔ (events_toward (enabled_test nat_eq self.now.surface self.now.names)
+            (length self.now.surface.rules) site (neighbour self.now.surface.grid site direction)
+            ≡ []) }
     {
         match self.grid().neighbour(site, direction) {
             Some(second) => self.rules_between(site, second).is_empty(),

@@ -41,7 +41,11 @@ impl<L: Lattice> World<L> {
     ) -> Result<World<L>, NoMemory>
         requires sites { length start.items ≡ (L.grid grid).width * (L.grid grid).height }
         requires site_count { length start.items ≤ 33554432 }
-        ensures { IfOk result (λ w. w ≡ record { surface = record { grid = L.grid grid; rules = map rule_of book }; names = start.items }) }
+        ensures { IfOk result (λ w. w
+            ≡ record {
+              surface = record { grid = L.grid grid; rules = map rule_of book };
+              names = start.items;
+            }) }
     {
         let _alloc = alloc;
         // the book tells how many rules it has at most
@@ -132,7 +136,8 @@ impl<L: Lattice> World<L> {
 
     fn fits_second(&self, first: Site, right: Option<u32>, second: Option<Site>) -> bool
         requires { IsInside self.now.surface.grid first }
-        ensures { IsTrue result ↔ FitsSecond self.now.surface.grid self.now.names first right second }
+        ensures { IsTrue result
+            ↔ FitsSecond self.now.surface.grid self.now.names first right second }
     {
         match (right, second) {
             (None, None) => true,
@@ -160,7 +165,8 @@ impl<L: Lattice> World<L> {
     /// Changes the sites of an event to the right side of its rule, and no other.
     pub fn apply(&mut self, event: &Event)
         requires { Enabled self.old.surface self.old.names event.now }
-        ensures { self.new ≡ record self.old { names = after self.old.surface self.old.names event.now } }
+        ensures { self.new
+            ≡ record self.old { names = after self.old.surface self.old.names event.now } }
     {
         let rule = *self.book.rule(event.rule);
         let first = self.place(event.first);

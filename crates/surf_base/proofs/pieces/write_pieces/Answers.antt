@@ -1,4 +1,4 @@
-use Rattle.std.proofs.Common.{rules, [], ◌≡◌, IsErr}
+use Rattle.std.proofs.Common.{rules, IsErr}
 use Rattle.surf_base.specs.Emits.{Emits, outlet}
 use Rattle.surf_base.specs.Pieces.{pieces_text}
 use Rattle.surf_base.proofs.EmitLemmas.{after_flush, wrote_front, wrote_front_then}

@@ -1,4 +1,4 @@
-use Rattle.std.proofs.Common.{rules, [], ℕ, List, subst}
+use Rattle.std.proofs.Common.{[], ℕ, List, subst}
 use Rattle.surf_base.specs.Known.{AppendsFront}
 use Rattle.surf_base.proofs.EmitLemmas.{emits_cut, cut_held}
 use Rattle.surf_base.proofs.outbox.Outbox.flush.Goals as goal

@@ -1,4 +1,4 @@
-use Rattle.std.proofs.Common.{rules, []}
+use Rattle.std.proofs.Common.{[]}
 use Rattle.surf_base.proofs.EmitLemmas.{after_whole, emits_cut, cut_longer}
 use Rattle.surf_base.proofs.outbox.Outbox.put.Goals as goal
 

@@ -1,4 +1,4 @@
-use Rattle.std.proofs.Common.{rules, arith, ◌≡◌, ◌+◌, ◌<◌, ℕ, List, suc, length, take, drop, IsErr, sym, subst}
+use Rattle.std.proofs.Common.{rules, arith, ◌<◌, ℕ, List, suc, length, drop, IsErr, sym, subst}
 use Rattle.surf_base.specs.Emits.{Sent}
 use Rattle.surf_base.specs.Pieces.{pieces_text}
 use Rattle.surf_base.proofs.EmitLemmas.{cut_part, sent_more}
