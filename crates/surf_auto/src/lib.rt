@@ -23,6 +23,3 @@ pub use laws::local_laws;
 pub use lines::is_table;
 pub use local::Local;
 pub use table::TableLocal;
-
-#[cfg(test)]
-mod tests;

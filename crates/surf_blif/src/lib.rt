@@ -17,8 +17,6 @@ mod numbering;
 mod reader;
 mod reading;
 mod rows;
-#[cfg(test)]
-mod tests;
 
 pub use error::BlifError;
 pub use laws::eval_is_of_text;

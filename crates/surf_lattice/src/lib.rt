@@ -24,6 +24,3 @@ pub use laws::grid_laws;
 pub use site::{GridKind, Site};
 pub use square::Square;
 pub use torus::Torus;
-
-#[cfg(test)]
-mod tests;

@@ -14,8 +14,6 @@ mod faults;
 mod laws;
 mod ready;
 mod sources;
-#[cfg(test)]
-mod tests;
 mod turns;
 mod values;
 

@@ -20,8 +20,6 @@ mod reader;
 mod reading;
 mod rows;
 mod rule_lines;
-#[cfg(test)]
-mod tests;
 mod words;
 mod worlds;
 

@@ -18,8 +18,6 @@ mod room;
 mod rows;
 mod rules;
 mod settings;
-#[cfg(test)]
-mod tests;
 
 pub use laws::{legend_is_read, print_is_kept, print_is_read};
 pub use legend::{Legend, Place};

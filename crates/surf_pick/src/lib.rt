@@ -15,6 +15,3 @@ pub use draw::Draw;
 pub use picker::Picker;
 pub use plain::PlainPicker;
 pub use tree::TreePicker;
-
-#[cfg(test)]
-mod tests;

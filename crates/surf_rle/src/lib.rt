@@ -11,7 +11,5 @@ mod lines;
 mod reader;
 mod rule;
 mod sheet;
-#[cfg(test)]
-mod tests;
 
 pub use reader::read_rle;

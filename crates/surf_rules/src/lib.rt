@@ -9,8 +9,6 @@ mod book;
 mod index;
 mod names;
 mod rule;
-#[cfg(test)]
-mod tests;
 
 pub use book::RuleBook;
 pub use names::Names;

@@ -14,6 +14,3 @@ mod theorems;
 
 pub use sim::Sim;
 pub use theorems::simulation_laws;
-
-#[cfg(test)]
-mod tests;

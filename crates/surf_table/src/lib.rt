@@ -10,8 +10,6 @@ mod laws;
 mod lines;
 mod numbers;
 mod reader;
-#[cfg(test)]
-mod tests;
 mod words;
 
 pub use laws::rules_by_weights;

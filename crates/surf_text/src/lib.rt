@@ -13,6 +13,3 @@ pub use cursor::{Lines, Skip};
 pub use lines::{first_line, next_token};
 pub use texts::{cut, is_blank_byte, trim};
 pub use words::{are_plain, is_word};
-
-#[cfg(test)]
-mod tests;

@@ -1,27 +1,57 @@
--- Texts that are flushed, and notes.
-use Rattle.std.proofs.Common.{ℕ, ◌≡◌, ◌≤◌, List, [], ◌++◌, Option, Result, Ok, Err, OnOk, OnErr, sym, ◌∙◌, ap, subst, append-nil}
+-- Texts that are emitted in parts, and texts that were written.
+use Rattle.std.proofs.Common.{ℕ, ◌≡◌, ◌≤◌, List, [], ◌∷◌, ◌++◌, Option, Result, Ok, Err, OnOk, OnErr, IsErr, sym, ◌∙◌, ap, append_assoc, append-nil}
 use Rattle.std.specs.Io.KnownBytes.{Appends}
+use Rattle.surf_base.specs.Causes.{Rose, HasCause}
 use Rattle.surf_base.specs.Known.{AppendsFront}
-use Rattle.surf_base.specs.Emits.{Cut, Emits, outlet}
+use Rattle.surf_base.specs.Emits.{Sent, Emits, outlet}
 use Rattle.surf_base.proofs.KnownLemmas.{front_of}
-use Rattle.surf_base.proofs.EmitLemmas.{sent_nothing, all_sent, cut_front}
+use Rattle.surf_base.proofs.EmitLemmas.{emits_cut, cut_longer, after_flush, wrote_all, wrote_front}
 use Rattle.surf_top.specs.Notes.{Notes}
+use Rattle.surf_top.specs.Writes.{Writes, Wrote}
 
--- nothing was emitted
-pub nothing : {E : Type 0} (old : Option (List ℕ)) (held : List ℕ) (a : ℕ) → a ≤ a → Emits {T = Unit {0}} {E = E} (outlet old held a) (outlet old held a) [] (Ok tt)
-nothing old held a le = record { whole = sent_nothing old held; cut = tt; later = le; cause = tt }
+-- the sink failed at the first of two texts, and another call answers the fault
+pub cut_before : {T U E : Type 0} (old new : Option (List ℕ)) (held left : List ℕ) (a c : ℕ) (xs ys : List ℕ) (q : Result T E) (r : Result U E) → IsErr q → IsErr r → Emits (outlet old held a) (outlet new left c) xs q → Emits (outlet old held a) (outlet new left c) (xs ++ ys) r
+cut_before old new held left a c xs ys (Ok x) r is out e = cc
+cut_before old new held left a c xs ys (Err x) r is out e = emits_cut old new held left a c (xs ++ ys) r out (cut_longer old new held left xs ys e.cut) e.later e.cause
 
-pub front_all : (old new : Option (List ℕ)) (text : List ℕ) → Appends old new text → AppendsFront old new text
+-- a text was written
+pub text_written : {T E : Type 0} (w : Writes) (text : List ℕ) (r : Result T E) → OnOk r (Appends w.old w.new text) → OnErr r (AppendsFront w.old w.new text) → HasCause w.before w.now r → Wrote w text r
+text_written w text r whole front cause = record { whole = whole; front = front; later = cause.later; cause = cause.failed }
+
+-- a text was printed where nothing was held, and then all that was held was sent
+pub printed : {T E : Type 0} (w : Writes) (mid : Option (List ℕ)) (held kept left : List ℕ) (b : ℕ) (text : List ℕ) (r : Result T E) → held ≡ [] → Sent w.old mid held kept text → w.before ≤ b → Emits (outlet mid kept b) (outlet w.new left w.now) [] r → OnOk r (left ≡ []) → Wrote w text r
+printed w mid held kept left b text r none sent le e empty =
+    let all : Emits (outlet w.old held w.before) (outlet w.new left w.now) text r = after_flush w.old mid w.new held kept left w.before b w.now text r sent le e in
+    record {
+      whole = wrote_all w.old w.new held left w.before w.now text r none all empty;
+      front = wrote_front w.old w.new held left w.before w.now text r none all;
+      later = all.later;
+      cause = all.cause;
+    }
+
+-- a text was cut short where nothing was held, and another call answers the fault
+pub printed_cut : {T U E : Type 0} (w : Writes) (held left text : List ℕ) (q : Result T E) (r : Result U E) → IsErr q → IsErr r → held ≡ [] → Emits (outlet w.old held w.before) (outlet w.new left w.now) text q → Wrote w text r
+printed_cut w held left text (Ok x) r is out none e = cc
+printed_cut w held left text (Err x) (Ok y) is out none e = cc
+printed_cut w held left text (Err x) (Err y) is out none e = record {
+  whole = tt;
+  front = wrote_front w.old w.new held left w.before w.now text (Err x) none e;
+  later = e.later;
+  cause = e.cause;
+}
+
+front_all : (old new : Option (List ℕ)) (text : List ℕ) → Appends old new text → AppendsFront old new text
 front_all old new text p = front_of old new text [] text (append-nil text) p
 
--- the front that was written where nothing was held before
-pub front_alone : (old new : Option (List ℕ)) (held left text : List ℕ) → held ≡ [] → Cut old new held left text → AppendsFront old new text
-front_alone old new held left text none c = subst (λ (t : List ℕ). AppendsFront old new (t ++ text)) none (cut_front old new held left text c)
+-- a line was written whole, or a front of it
+pub noted : {T E : Type 0} (w : Writes) (line : List ℕ) (r : Result T E) → OnOk r (Appends w.old w.new line) → OnErr r (AppendsFront w.old w.new line) → w.before ≤ w.now → OnErr r (Rose w.before w.now) → Notes w line
+noted w line (Ok x) whole front later cause =
+    record { front = front_all w.old w.new line whole; whole = λ quiet. whole; later = later }
+noted w line (Err x) whole front later cause =
+    record { front = front; whole = λ quiet. absurd (quiet cause); later = later }
 
--- a line was emitted whole, or a front of it
-pub noted : {T E : Type 0} (old new : Option (List ℕ)) (held left : List ℕ) (a c : ℕ) (line : List ℕ) (r : Result T E) → held ≡ [] → Emits (outlet old held a) (outlet new left c) line r → OnOk r (left ≡ []) → Notes old new a c line
-noted old new held left a c line (Ok x) none e empty =
-    let whole : Appends old new line = all_sent old new held left line none empty e.whole in
-    record { front = front_all old new line whole; whole = λ quiet. whole; later = e.later }
-noted old new held left a c line (Err x) none e empty =
-    record { front = front_alone old new held left line none e.cut; whole = λ quiet. absurd (quiet e.cause); later = e.later }
+-- the line of a refusal: its words and what follows them in four parts
+pub refusal_line : (words a b c d all tail : List ℕ) → all ≡ words ++ tail → a ++ (b ++ (c ++ d)) ≡ tail → words ++ (a ++ (b ++ (c ++ (d ++ 10 ∷ [])))) ≡ all ++ 10 ∷ []
+refusal_line words a b c d all tail is parts =
+    let e : (words ++ (a ++ (b ++ (c ++ d)))) ++ 10 ∷ [] ≡ words ++ (a ++ (b ++ (c ++ (d ++ 10 ∷ [])))) = simp append_assoc in
+    sym e ∙ ap (λ s. s ++ 10 ∷ []) (ap (λ s. words ++ s) parts ∙ sym is)

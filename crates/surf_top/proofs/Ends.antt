@@ -2,66 +2,76 @@
 use Rattle.std.proofs.Common.{ℕ, ◌≡◌, ◌≤◌, ◌<◌, Bool, List, length, Option, Some, None, Result, Ok, Err, IfSome, IfOk, is_ok, refl, sym, ◌∙◌, ap, subst, inl, inr, ◌⊎◌, arith}
 use Rattle.std.proofs.lemmas.Bool.{false≢true}
 use Rattle.std.specs.Io.KnownBytes.{Appends}
-use Rattle.surf_base.specs.Causes.{Rose}
-use Rattle.surf_base.specs.Known.{AppendsFront, ReadsWhole}
+use Rattle.surf_base.specs.Known.{ReadsWhole}
 use Rattle.surf_rules.specs.Names.{text_of}
 use Rattle.surf_pick.specs.Draws.{seeded, words_of}
 use Rattle.surf_sim.specs.Simulations.{Simulation}
 use Rattle.surf_manifest.specs.Grammar.{ManifestText, manifest_of}
 use Rattle.surf_manifest.specs.declared.error.ManifestError.{ManifestError}
-use Rattle.surf_top.specs.Jobs.{Job, Run, Format, Eval, Step, Replay}
+use Rattle.surf_top.specs.Jobs.{Job, Run, Format, Eval, Circuit, Set, Step, Replay}
 use Rattle.surf_world.specs.declared.event.Event.{Event}
 use Rattle.surf_trace.proofs.Runs.{run_not_bad}
 use Rattle.surf_blif.specs.declared.error.BlifError.{BlifError}
 use Rattle.surf_blif.specs.declared.error.BlifError.TheVariants as blifs
 use Rattle.surf_blif.specs.Grammar.{Unsupported, BadLine, BadCover, MixedCover}
-use Rattle.surf_blif.specs.Blifs.{InText, TooLarge, InCircuit}
+use Rattle.surf_blif.specs.Blifs.{InText, TooLarge, InCircuit, parts_of}
 use Rattle.surf_top.specs.Values.{IsAccepted, HasValues}
 use Rattle.surf_top.specs.declared.status.Refusal.{Refusal}
-use Rattle.surf_top.specs.declared.status.Refusal.TheVariants.{Manifest, Trace, Blif, Bits, Source}
+use Rattle.surf_top.specs.declared.status.Refusal.TheVariants.{Manifest, Legend, Trace, Blif, Bits, NotInput, Source}
 use Rattle.surf_top.specs.declared.status.Status.{Status}
 use Rattle.surf_top.specs.declared.status.Status.TheVariants.{Done, Refused, Usage, NotEnabled, ReadFault, WriteFault, NoMemory, TooLong}
-use Rattle.surf_top.specs.Answers.{Ends, HasCauses, IsComplete, PrintsRun, WroteWhole, WroteFront, limit}
-use Rattle.surf_top.specs.Commands.{IsReady, EndsJob}
-use Rattle.surf_top.specs.Outputs.{IsText, HasText, IsRefused, FindsBad, IsBadAt, IsValid, IsBlifRefused, IsEvalRefused, printed_run, replay_input, Shows, ShowsOf}
+use Rattle.surf_top.specs.Answers.{Ends, HasCauses, IsComplete, IsQuiet, PrintsCircuit, PrintsRun, PrintsWhat, WroteWhole, WroteFront, limit}
+use Rattle.surf_top.specs.Commands.{IsReady, EndsJob, status_of}
+use Rattle.surf_top.specs.Outputs.{IsText, HasText, IsRefused, FindsBad, IsBadAt, IsValid, IsBlifRefused, IsCircuitRefused, IsEvalRefused, IsSetRefused, printed_run, replay_input, Shows, ShowsOf}
+use Rattle.surf_circuit.specs.declared.inputs.SetError.{SetError}
+use Rattle.surf_circuit.specs.declared.inputs.SetError.TheVariants as sets
+use Rattle.surf_circuit.specs.Inputs.{set_fault}
+use Rattle.surf_top.specs.Compiled.{HoldsCircuit}
+use Rattle.surf_top.specs.Sets.{SetsWith}
 use Rattle.surf_top.specs.Prints.{placed_text}
 use Rattle.surf_top.specs.Runs.{ShowsRun}
+use Rattle.surf_top.specs.Writes.{Writes, Wrote}
 use Rattle.surf_top.proofs.Shown.{numbered_text, numbered_shows}
+
+-- a job's text was written
+pub text_ends : {T E : Type 0} (job : Job) (input : List ℕ) (w : Writes) (text : List ℕ) (r : Result T E) (s : Status) → s ≡ status_of r → IsText job input text → Shows job input text → Wrote w text r → EndsJob job input w s
+text_ends job input w text (Ok x) s is of shows wrote =
+    subst (λ (p : Status). EndsJob job input w p) (sym is) (record { text = text; is = of; shows = shows; whole = wrote.whole })
+text_ends job input w text (Err x) s is of shows wrote =
+    subst (λ (p : Status). EndsJob job input w p) (sym is) (wrote.cause, record { text = text; is = of; front = wrote.front })
+
+pub loud : {T E : Type 0} (r : Result T E) (s : Status) → s ≡ status_of r → IsQuiet s → ⊥
+loud (Ok x) s is quiet = subst IsQuiet is quiet
+loud (Err x) s is quiet = subst IsQuiet is quiet
 
 -- the text of a simulator of the manifest is the job's output
 module _ (input : List ℕ) (m : ManifestText) (seed count : ℕ) (sim : Simulation) (texts : List (List ℕ)) (read : manifest_of input ≡ Ok m) (ready : IsReady m seed sim texts) where
   abbrev text : List ℕ
   text = placed_text (text_of texts) sim.placed (words_of sim.generator) count
 
-  output_is : IsText (Run seed count) input text
+  pub output_is : IsText (Run seed count) input text
   output_is =
       ap (printed_run seed count) read
       ∙ ap Ok (numbered_text m.system sim.placed texts (words_of (seeded seed)) count ready.numbered)
       ∙ ap (λ g. Ok (placed_text (text_of texts) sim.placed (words_of g) count)) (sym ready.seeds)
 
-  shown : Shows (Run seed count) input text
+  pub shown : Shows (Run seed count) input text
   shown = subst (λ (r : Result ManifestText ManifestError). ShowsOf count r text) (sym read) (numbered_shows m.system sim.placed texts (words_of sim.generator) count ready.numbered)
-
-  pub done_ends : (old new : Option (List ℕ)) (before now : ℕ) → Appends old new text → EndsJob (Run seed count) input old new before now Done
-  done_ends old new before now whole = record { text = text; is = output_is; shows = shown; whole = whole }
-
-  pub cut_ends : (old new : Option (List ℕ)) (before now : ℕ) → Rose before now → AppendsFront old new text → EndsJob (Run seed count) input old new before now WriteFault
-  cut_ends old new before now rose front = (rose, record { text = text; is = output_is; front = front })
 
 told : (o : Option (List ℕ)) (bytes : List ℕ) (P : List ℕ → Type 0) → IfSome o (λ left. bytes ≡ left) → length bytes ≤ limit → P bytes → IfSome o (λ input. (length input ≤ limit) × P input)
 told None bytes P is le p = tt
 told (Some left) bytes P is le p = subst (λ (input : List ℕ). (length input ≤ limit) × P input) is (le, p)
 
 -- the input was read whole, and then the job ended
-pub read_then : (job : Job) (e : Ends) (bytes : List ℕ) (s : Status) → ReadsWhole e.left_before e.left_after bytes → length bytes ≤ limit → EndsJob job bytes e.written_before e.written_after e.writes_before e.writes_after s → HasCauses (Some job) e s
-read_then job e bytes Done read le ends = (read.end, told e.left_before bytes (λ input. WroteWhole job input e.written_before e.written_after) read.all le ends)
-read_then job e bytes (Refused r) read le ends = (read.end, told e.left_before bytes (λ input. IsRefused job input r) read.all le ends)
-read_then job e bytes Usage read le ends = absurd ends
-read_then job e bytes (NotEnabled k) read le ends = (read.end, told e.left_before bytes (λ input. FindsBad job input k) read.all le ends)
-read_then job e bytes ReadFault read le ends = absurd ends
-read_then job e bytes WriteFault read le ends = (ends.0, (read.end, told e.left_before bytes (λ input. WroteFront job input e.written_before e.written_after) read.all le ends.1))
-read_then job e bytes NoMemory read le ends = tt
-read_then job e bytes TooLong read le ends = absurd ends
+pub read_then : (job : Job) (e : Ends) (bytes : List ℕ) (s : Status) → ReadsWhole e.left_before e.left_after bytes → length bytes ≤ limit → EndsJob job bytes e.out s → e.reads_after ≡ e.reads_before → HasCauses (Some job) e s
+read_then job e bytes Done read le ends same = (read.end, told e.left_before bytes (λ input. WroteWhole job input e.out.old e.out.new) read.all le ends)
+read_then job e bytes (Refused r) read le ends same = (read.end, told e.left_before bytes (λ input. IsRefused job input r) read.all le ends)
+read_then job e bytes Usage read le ends same = absurd ends
+read_then job e bytes (NotEnabled k) read le ends same = (read.end, told e.left_before bytes (λ input. FindsBad job input k) read.all le ends)
+read_then job e bytes ReadFault read le ends same = absurd ends
+read_then job e bytes WriteFault read le ends same = (ends.0, (read.end, told e.left_before bytes (λ input. WroteFront job input e.out.old e.out.new) read.all le ends.1))
+read_then job e bytes NoMemory read le ends same = (same, ends)
+read_then job e bytes TooLong read le ends same = absurd ends
 
 -- the job that was asked for
 pub asked : (o : Option Job) (job : Job) (e : Ends) (s : Status) → o ≡ Some job → HasCauses (Some job) e s → HasCauses o e s
@@ -92,14 +102,45 @@ no_values : (bits : List Bool) (input : List ℕ) (r : Refusal) → IsEvalRefuse
 no_values bits input (Blif e) is ok = no_fault input e is ok.accepted
 no_values bits input (Bits found wanted) is ok = is.differ (is.bits_are ∙ ok.enough ∙ sym is.inputs_are)
 no_values bits input (Manifest e) is ok = is
+no_values bits input (Legend e) is ok = is
 no_values bits input (Trace e) is ok = is
+no_values bits input (NotInput s) is ok = is
 no_values bits input (Source e) is ok = is
+
+no_surface : (input : List ℕ) (r : Refusal) → IsCircuitRefused input r → IsAccepted input → ⊥
+no_surface input (Blif e) is ok = no_fault input e is ok
+no_surface input (Manifest e) is ok = is
+no_surface input (Legend e) is ok = is
+no_surface input (Trace e) is ok = is
+no_surface input (Bits found wanted) is ok = is
+no_surface input (NotInput s) is ok = is
+no_surface input (Source e) is ok = is
+
+-- an input spells one manifest and one legend
+one_fault : (bits : List Bool) (input : List ℕ) (a b : Option SetError) → SetsWith bits input a → SetsWith bits input b → a ≡ b
+one_fault bits input a b x y =
+    let m : x.manifest ≡ y.manifest = cc (sym x.has.read ∙ y.has.read) in
+    let l : x.legend ≡ y.legend = cc (sym x.has.told ∙ y.has.told) in
+    sym x.fits ∙ ap (λ n. set_fault n.system x.legend bits) m ∙ ap (λ k. set_fault y.manifest.system k bits) l ∙ y.fits
+
+not_set : (bits : List Bool) (input : List ℕ) (r : Refusal) → IsSetRefused bits input r → SetsWith bits input None → ⊥
+not_set bits input (Manifest e) is ok = false≢true (sym (ap is_ok is) ∙ ap is_ok ok.has.read)
+not_set bits input (Legend e) is ok = false≢true (sym (ap is_ok is.1) ∙ ap is_ok ok.has.told)
+not_set bits input (Bits found wanted) is ok =
+    let e : Some (sets.Length found wanted) ≡ None = one_fault bits input (Some (sets.Length found wanted)) None is ok in cc
+not_set bits input (NotInput s) is ok =
+    let e : Some (sets.NotInput s) ≡ None = one_fault bits input (Some (sets.NotInput s)) None is ok in cc
+not_set bits input (Trace e) is ok = is
+not_set bits input (Blif e) is ok = is
+not_set bits input (Source e) is ok = is
 
 -- an input that is refused has no text, and neither has one with an event that is not enabled
 refused_none : (job : Job) (input : List ℕ) (r : Refusal) → IsRefused job input r → HasText job input → ⊥
 refused_none (Run seed count) input r is ok = false≢true (sym (ap is_ok is) ∙ ok)
 refused_none Format input r is ok = false≢true (sym (ap is_ok is) ∙ ok)
 refused_none (Eval bits) input r is ok = no_values bits input r is ok
+refused_none Circuit input r is ok = no_surface input r is ok
+refused_none (Set bits) input r is ok = not_set bits input r is ok
 refused_none (Step times) input r is ok = false≢true (sym (ap is_ok is) ∙ ok)
 refused_none Replay input r is ok = subst (λ (p : Result (ManifestText × List Event) Refusal). IsValid p) is ok
 
@@ -111,6 +152,8 @@ bad_none : (job : Job) (input : List ℕ) (k : ℕ) → FindsBad job input k →
 bad_none (Run seed count) input k bad ok = bad
 bad_none Format input k bad ok = bad
 bad_none (Eval bits) input k bad ok = bad
+bad_none Circuit input k bad ok = bad
+bad_none (Set bits) input k bad ok = bad
 bad_none (Step times) input k bad ok = bad
 bad_none Replay input k bad ok = valid_not_bad (replay_input input) k bad ok
 
@@ -129,24 +172,32 @@ complete (Some job) e NoMemory causes = λ reads writes. anything e.left_before 
 complete (Some job) e TooLong causes = λ reads writes.
     each e.left_before (λ input. limit < length input) (IsOver job TooLong) (λ x lt le ok. absurd (omega (arith, lt, le))) causes
 
-wrote_run : (count : ℕ) (r : Result ManifestText ManifestError) (text : List ℕ) (old new : Option (List ℕ)) → ShowsOf count r text → Appends old new text → IfOk r (λ m. (text : List ℕ) × ShowsRun m.system count text × Appends old new text)
-wrote_run count (Ok m) text old new shows whole = (text, shows, whole)
-wrote_run count (Err f) text old new shows whole = absurd shows
+-- what a job's text shows
+done_shows : (job : Job) (e : Ends) (s : Status) (P : List ℕ → List ℕ → Type 0) → ((input text : List ℕ) → Shows job input text → P input text) → HasCauses (Some job) e s → PrintsWhat e s P
+done_shows job e Done P h causes = λ done.
+    each e.left_before (λ input. (length input ≤ limit) × WroteWhole job input e.out.old e.out.new)
+    (λ input. (text : List ℕ) × P input text × Appends e.out.old e.out.new text)
+    (λ input p. ((p.1).text, h input (p.1).text (p.1).shows, (p.1).whole)) causes.1
+done_shows job e (Refused r) P h causes = λ done. absurd cc
+done_shows job e Usage P h causes = λ done. absurd cc
+done_shows job e (NotEnabled k) P h causes = λ done. absurd cc
+done_shows job e ReadFault P h causes = λ done. absurd cc
+done_shows job e WriteFault P h causes = λ done. absurd cc
+done_shows job e NoMemory P h causes = λ done. absurd cc
+done_shows job e TooLong P h causes = λ done. absurd cc
+
+shows_run : (count : ℕ) (r : Result ManifestText ManifestError) (text : List ℕ) → ShowsOf count r text → IfOk r (λ m. ShowsRun m.system count text)
+shows_run count (Ok m) text shows = shows
+shows_run count (Err f) text shows = absurd shows
 
 pub prints_run : (o : Option Job) (e : Ends) (s : Status) → HasCauses o e s → PrintsRun o e s
 prints_run None e s causes = tt
-prints_run (Some Format) e s causes = tt
-prints_run (Some (Eval bits)) e s causes = tt
-prints_run (Some (Step times)) e s causes = tt
-prints_run (Some Replay) e s causes = tt
-prints_run (Some (Run seed count)) e Done causes = λ done.
-    each e.left_before (λ input. (length input ≤ limit) × WroteWhole (Run seed count) input e.written_before e.written_after)
-    (λ input. IfOk (manifest_of input) (λ m. (text : List ℕ) × ShowsRun m.system count text × Appends e.written_before e.written_after text))
-    (λ input p. wrote_run count (manifest_of input) (p.1).text e.written_before e.written_after (p.1).shows (p.1).whole) causes.1
-prints_run (Some (Run seed count)) e (Refused r) causes = λ done. absurd cc
-prints_run (Some (Run seed count)) e Usage causes = λ done. absurd cc
-prints_run (Some (Run seed count)) e (NotEnabled k) causes = λ done. absurd cc
-prints_run (Some (Run seed count)) e ReadFault causes = λ done. absurd cc
-prints_run (Some (Run seed count)) e WriteFault causes = λ done. absurd cc
-prints_run (Some (Run seed count)) e NoMemory causes = λ done. absurd cc
-prints_run (Some (Run seed count)) e TooLong causes = λ done. absurd cc
+prints_run (Some (Run seed count)) e s causes =
+    done_shows (Run seed count) e s (λ input text. IfOk (manifest_of input) (λ m. ShowsRun m.system count text)) (λ input text. shows_run count (manifest_of input) text) causes
+prints_run (Some job) e s causes = tt
+
+pub prints_circuit : (o : Option Job) (e : Ends) (s : Status) → HasCauses o e s → PrintsCircuit o e s
+prints_circuit None e s causes = tt
+prints_circuit (Some Circuit) e s causes =
+    done_shows Circuit e s (λ input text. HoldsCircuit (parts_of input) text) (λ input text shows. shows) causes
+prints_circuit (Some job) e s causes = tt

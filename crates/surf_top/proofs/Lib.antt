@@ -7,3 +7,5 @@ pub mod Ends
 pub mod Replayed
 pub mod Valued
 pub mod Stepped
+pub mod Settings
+pub mod Surfaces

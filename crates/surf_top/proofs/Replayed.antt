@@ -1,8 +1,5 @@
 -- What a replay of numbers says of the names.
-use Rattle.std.proofs.Common.{ℕ, ◌≡◌, ◌-◌, List, [], length, map, take, Option, Result, Ok, refl, sym, ◌∙◌, ap, subst}
-use Rattle.std.specs.Io.KnownBytes.{Appends}
-use Rattle.surf_base.specs.Causes.{Rose}
-use Rattle.surf_base.specs.Known.{AppendsFront}
+use Rattle.std.proofs.Common.{ℕ, ◌≡◌, ◌-◌, List, [], length, map, take, Result, Ok, refl, sym, ◌∙◌, ap, subst}
 use Rattle.surf_rules.specs.Names.{text_of}
 use Rattle.surf_world.specs.declared.event.Event.{Event}
 use Rattle.surf_world.specs.Systems.{System, Enabled, IsRun, left_by}
@@ -19,9 +16,10 @@ use Rattle.surf_trace.specs.Splits.{before_trace}
 use Rattle.surf_trace.specs.TraceTexts.{trace_of}
 use Rattle.surf_top.specs.Jobs.{Replay}
 use Rattle.surf_top.specs.declared.status.Refusal.{Refusal}
-use Rattle.surf_top.specs.declared.status.Status.TheVariants.{Done, WriteFault, NotEnabled}
+use Rattle.surf_top.specs.declared.status.Status.TheVariants.{NotEnabled}
 use Rattle.surf_top.specs.Commands.{EndsJob}
-use Rattle.surf_top.specs.Outputs.{replay_input, replay_of, manifest_before, valid_text, IsValidText, IsBadAt}
+use Rattle.surf_top.specs.Outputs.{IsText, replay_input, replay_of, manifest_before, valid_text, IsValidText, IsBadAt}
+use Rattle.surf_top.specs.Writes.{Writes}
 use Rattle.surf_top.proofs.Shown.{left_below}
 
 pub numbered_run : (S : System (List ℕ)) (w : Placed) (texts : List (List ℕ)) (es : List Event) → IsNumbered S w texts → IsRun w.surface w.names es → IsRun S.surface S.start es
@@ -53,14 +51,8 @@ pub replay_is : (input : List ℕ) (m : ManifestText) (es : List Event) → mani
 replay_is input m es read trace = ap (λ r. replay_of r (trace_of input)) read ∙ ap (λ t. replay_of (Ok m) t) trace
 
 module _ (input : List ℕ) (m : ManifestText) (es : List Event) (w : Placed) (texts : List (List ℕ)) (is : replay_input input ≡ Ok (m, es)) (numbered : IsNumbered m.system w texts) where
-  valid : IsRun w.surface w.names es → IsValidText (replay_input input) (valid_text es)
+  pub valid : IsRun w.surface w.names es → IsText Replay input (valid_text es)
   valid run = subst (λ (r : Result (ManifestText × List Event) Refusal). IsValidText r (valid_text es)) (sym is) (numbered_run m.system w texts es numbered run, refl)
 
-  pub valid_done : (old new : Option (List ℕ)) (before now : ℕ) → IsRun w.surface w.names es → Appends old new (valid_text es) → EndsJob Replay input old new before now Done
-  valid_done old new before now run whole = record { text = valid_text es; is = valid run; shows = tt; whole = whole }
-
-  pub valid_cut : (old new : Option (List ℕ)) (before now : ℕ) → IsRun w.surface w.names es → Rose before now → AppendsFront old new (valid_text es) → EndsJob Replay input old new before now WriteFault
-  valid_cut old new before now run rose front = (rose, record { text = valid_text es; is = valid run; front = front })
-
-  pub bad_ends : (old new : Option (List ℕ)) (before now k : ℕ) → FirstBad w.surface w.names es k → EndsJob Replay input old new before now (NotEnabled k)
-  bad_ends old new before now k bad = subst (λ (r : Result (ManifestText × List Event) Refusal). IsBadAt r k) (sym is) (numbered_bad m.system w texts es k numbered bad)
+  pub bad_ends : (o : Writes) (k : ℕ) → FirstBad w.surface w.names es k → EndsJob Replay input o (NotEnabled k)
+  bad_ends o k bad = subst (λ (r : Result (ManifestText × List Event) Refusal). IsBadAt r k) (sym is) (numbered_bad m.system w texts es k numbered bad)

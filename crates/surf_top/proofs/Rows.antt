@@ -1,11 +1,11 @@
 -- The names of a row with the bytes behind them, and the rows of a surface.
-use Rattle.std.proofs.Common.{ℕ, zero, suc, ◌≡◌, ◌+◌, ◌-◌, ◌*◌, ◌<◌, ◌≤◌, List, [], ◌∷◌, ◌++◌, length, map, take, drop, Option, Some, Result, Ok, Err, refl, sym, ◌∙◌, ap, subst, arith, append_assoc, append-nil, slice_get, get_or, ne_eqb, eq-eqb}
+use Rattle.std.proofs.Common.{ℕ, zero, suc, ◌≡◌, ◌+◌, ◌-◌, ◌*◌, ◌<◌, ◌≤◌, List, [], ◌∷◌, ◌++◌, length, map, take, drop, Option, Some, Result, Ok, IsErr, refl, sym, ◌∙◌, ap, subst, arith, append_assoc, append-nil, slice_get, get_or, ne_eqb, eq-eqb}
 use Rattle.std.proofs.Math.Seq.{take-suc}
 use Rattle.std.proofs.Math.Nat.{mul-le-mul_right}
 use Rattle.std.proofs.lemmas.List.{take-append-drop, drop-drop, get_or-take, get_or-drop, length-take-le, length-drop, map-append, take_all}
 use Rattle.std.proofs.lemmas.Option.{slice_get_within, get_or_from_slice_get, slice_get-get_or}
-use Rattle.surf_base.specs.Emits.{Sent, Cut, Emits, outlet}
-use Rattle.surf_base.proofs.EmitLemmas.{sent_more, cut_after, cut_longer, rose_earlier}
+use Rattle.surf_base.specs.Emits.{Sent, Emits, outlet}
+use Rattle.surf_base.proofs.EmitLemmas.{sent_more, cut_part, all_parts}
 use Rattle.surf_text.specs.Bytes.{spaced, ended, rows_of}
 use Rattle.surf_top.specs.Prints.{cells, behind_name}
 
@@ -68,11 +68,13 @@ module _ (width : ℕ) (row : List (List ℕ)) (len : length row ≡ width) (x :
       (let e : 0 + length (take (x + 1) row) ≡ x + 1 = omega (arith, length-take-le (x + 1) row (omega (arith, within))) in e)
       ∙ append_assoc (cells width 0 (take x row)) (t ++ behind_name width x ∷ []) (cells width (x + 1) (drop (x + 1) row))
 
-pub row_long : (width height y : ℕ) (names : List (List ℕ)) → length names ≡ width * height → y < height → length (take width (drop (y * width) names)) ≡ width
-row_long width height y names len lt =
-    length-take-le width (drop (y * width) names)
-    (let fits : (y + 1) * width ≤ height * width = mul-le-mul_right width (omega (arith, lt)) in
-    omega (arith, fits, length-drop (y * width) names, len))
+pub row_within : (width height y : ℕ) → y < height → y * width + width ≤ width * height
+row_within width height y lt =
+    let fits : (y + 1) * width ≤ height * width = mul-le-mul_right width (omega (arith, lt)) in omega (arith, fits)
+
+pub row_long : (width y : ℕ) (names : List (List ℕ)) → y * width + width ≤ length names → length (take width (drop (y * width) names)) ≡ width
+row_long width y names le =
+    length-take-le width (drop (y * width) names) (omega (arith, le, length-drop (y * width) names))
 
 pub row_at : (width k x : ℕ) (names : List (List ℕ)) (t : List ℕ) → x < width → length (take width (drop k names)) ≡ width → slice_get names (k + x) ≡ Some t → slice_get (take width (drop k names)) x ≡ Some t
 row_at width k x names t lt len at =
@@ -116,24 +118,9 @@ row_split width height y names lt =
     ∙ ap (λ s. row_lines width y names ++ s)
     (sym (append_assoc (spaced (take width (drop (y * width) names))) (10 ∷ []) (row_lines width (height - (y + 1)) (drop width (drop (y * width) names)))))
 
--- a part of a text was cut short, after others were taken
-pub cut_within : {T U E : Type 0} (old mid new : Option (List ℕ)) (held kept left : List ℕ) (a b c : ℕ) (xs ys zs text : List ℕ) (r : Result T E) (x : E) → text ≡ xs ++ (ys ++ zs) → Sent old mid held kept xs → a ≤ b → r ≡ Err x → Emits (outlet mid kept b) (outlet new left c) ys r
-    → Emits {T = U} {E = E} (outlet old held a) (outlet new left c) text (Err x)
-cut_within old mid new held kept left a b c xs ys zs text (Ok y) x is s le err e = cc
-cut_within old mid new held kept left a b c xs ys zs text (Err y) x is s le err e = record {
-  whole = tt;
-  cut = subst (λ (t : List ℕ). Cut old new held left t) (sym is) (cut_after old mid new held kept left xs (ys ++ zs) s (cut_longer mid new kept left ys zs e.cut));
-  later = omega (arith, le, e.later);
-  cause = rose_earlier a b c le e.cause;
-}
-
 -- a part was taken, after others
 pub sent_part : (old mid new : Option (List ℕ)) (held kept left xs ys text : List ℕ) → text ≡ xs ++ ys → Sent old mid held kept xs → Sent mid new kept left ys → Sent old new held left text
 sent_part old mid new held kept left xs ys text is a b = subst (λ (t : List ℕ). Sent old new held left t) (sym is) (sent_more old mid new held kept left xs ys a b)
-
--- all parts were taken
-pub all_emitted : {E : Type 0} (old new : Option (List ℕ)) (held left : List ℕ) (a c : ℕ) (xs text : List ℕ) → text ≡ xs → Sent old new held left xs → a ≤ c → Emits {T = Unit {0}} {E = E} (outlet old held a) (outlet new left c) text (Ok tt)
-all_emitted old new held left a c xs text is s le = record { whole = subst (λ (t : List ℕ). Sent old new held left t) (sym is) s; cut = tt; later = le; cause = tt }
 
 -- a name of a row was printed, with the byte behind it
 module _ (width : ℕ) (row : List (List ℕ)) (len : length row ≡ width) (x : ℕ) (t : List ℕ) (at : slice_get row x ≡ Some t) (behind : ℕ) (is : behind ≡ behind_name width x) where
@@ -142,22 +129,22 @@ module _ (width : ℕ) (row : List (List ℕ)) (len : length row ≡ width) (x :
       sent_part old mid new held kept left (cells width 0 (take x row)) (t ++ behind_name width x ∷ []) (cells width 0 (take (x + 1) row)) (cell_more width row len x t at) before
       (subst (λ (b : ℕ). Sent mid new kept left (t ++ b ∷ [])) is cell)
 
-  pub cell_cut : {T U E : Type 0} (old mid new : Option (List ℕ)) (held kept left : List ℕ) (a b c : ℕ) (r : Result T E) (y : E) → 1 ≤ width → Sent old mid held kept (cells width 0 (take x row)) → a ≤ b → r ≡ Err y → Emits (outlet mid kept b) (outlet new left c) (t ++ behind ∷ []) r
-      → Emits {T = U} {E = E} (outlet old held a) (outlet new left c) (spaced row ++ 10 ∷ []) (Err y)
-  cell_cut old mid new held kept left a b c r y some before le err cell =
-      cut_within old mid new held kept left a b c (cells width 0 (take x row)) (t ++ behind_name width x ∷ []) (cells width (x + 1) (drop (x + 1) row)) (spaced row ++ 10 ∷ []) r y
-      (sym (whole_row width row len some) ∙ cell_split width row len x t at) before le err
-      (subst (λ (d : ℕ). Emits (outlet mid kept b) (outlet new left c) (t ++ d ∷ []) r) is cell)
+  pub cell_cut : {T U E : Type 0} (old mid new : Option (List ℕ)) (held kept left : List ℕ) (a b c : ℕ) (q : Result T E) (r : Result U E) → 1 ≤ width → Sent old mid held kept (cells width 0 (take x row)) → a ≤ b → IsErr q → IsErr r → Emits (outlet mid kept b) (outlet new left c) (t ++ behind ∷ []) q
+      → Emits (outlet old held a) (outlet new left c) (spaced row ++ 10 ∷ []) r
+  cell_cut old mid new held kept left a b c q r some before le err out cell =
+      cut_part old mid new held kept left a b c (cells width 0 (take x row)) (t ++ behind_name width x ∷ []) (cells width (x + 1) (drop (x + 1) row)) (spaced row ++ 10 ∷ []) q r
+      (sym (whole_row width row len some) ∙ cell_split width row len x t at) before le err out
+      (subst (λ (d : ℕ). Emits (outlet mid kept b) (outlet new left c) (t ++ d ∷ []) q) is cell)
 
 -- all names of a row were printed
 pub row_done : {E : Type 0} (width : ℕ) (row : List (List ℕ)) (x : ℕ) (old new : Option (List ℕ)) (held left : List ℕ) (a c : ℕ) → length row ≡ width → 1 ≤ width → width ≤ x → Sent old new held left (cells width 0 (take x row)) → a ≤ c
     → Emits {T = Unit {0}} {E = E} (outlet old held a) (outlet new left c) (spaced row ++ 10 ∷ []) (Ok tt)
 row_done width row x old new held left a c len some le s later =
-    all_emitted old new held left a c (cells width 0 (take x row)) (spaced row ++ 10 ∷ [])
+    all_parts old new held left a c (cells width 0 (take x row)) (spaced row ++ 10 ∷ [])
     (sym (whole_row width row len some) ∙ ap (cells width 0) (sym (take_all x row (omega (arith, le, len))))) s later
 
 -- all rows were printed
 pub rows_done : {E : Type 0} (width height y : ℕ) (names : List (List ℕ)) (old new : Option (List ℕ)) (held left : List ℕ) (a c : ℕ) → y ≡ height → Sent old new held left (row_lines width y names) → a ≤ c
     → Emits {T = Unit {0}} {E = E} (outlet old held a) (outlet new left c) (row_lines width height names) (Ok tt)
 rows_done width height y names old new held left a c is s later =
-    all_emitted old new held left a c (row_lines width y names) (row_lines width height names) (ap (λ k. row_lines width k names) (sym is)) s later
+    all_parts old new held left a c (row_lines width y names) (row_lines width height names) (ap (λ k. row_lines width k names) (sym is)) s later

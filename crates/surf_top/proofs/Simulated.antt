@@ -1,8 +1,8 @@
 -- The events of a simulation, and their lines, as far as they have come.
-use Rattle.std.proofs.Common.{ℕ, suc, ◌≡◌, ◌+◌, ◌-◌, ◌<◌, ◌≤◌, nat_eq, List, [], ◌∷◌, ◌++◌, length, Option, Some, None, Result, Ok, Err, refl, sym, ◌∙◌, ap, subst, arith, append_assoc, append-nil, length-append}
+use Rattle.std.proofs.Common.{ℕ, suc, ◌≡◌, ◌+◌, ◌-◌, ◌<◌, ◌≤◌, nat_eq, List, [], ◌∷◌, ◌++◌, length, Option, Some, None, Result, Ok, IsErr, refl, sym, ◌∙◌, ap, subst, arith, append_assoc, append-nil, length-append}
 use Rattle.rand_core.specs.Stream.{Stream}
-use Rattle.surf_base.specs.Emits.{Sent, Cut, Emits, outlet}
-use Rattle.surf_base.proofs.EmitLemmas.{sent_nothing, sent_more, cut_after, cut_longer, rose_earlier}
+use Rattle.surf_base.specs.Emits.{Sent, Emits, outlet}
+use Rattle.surf_base.proofs.EmitLemmas.{sent_nothing, sent_more, cut_part}
 use Rattle.surf_world.specs.declared.event.Event.{Event}
 use Rattle.surf_world.specs.Systems.{Surface, after, left_by}
 use Rattle.surf_world.specs.Worlds.{Placed}
@@ -101,22 +101,13 @@ module _ (w : Placed) (s : Stream) (count : ℕ) where
   counted_world n now t old new held left ge f = world_whole n now t old new held left f (none_after n now t ge)
 
   -- a line was cut short
-  pub cut_short : {T U E : Type 0} (n : ℕ) (now : Placed) (t u : Stream) (old mid new : Option (List ℕ)) (held kept left : List ℕ) (a b c : ℕ) (e : Event) (r : Result T E) (x : E) → a ≤ b → n < count → SoFar w s count n now t old mid held kept
-      → next_of nat_eq now.surface now.names t ≡ Some (e, u) → r ≡ Err x → Emits (outlet mid kept b) (outlet new left c) (event_text (n + 1) e) r
-      → Emits {T = U} {E = E} (outlet old held a) (outlet new left c) (events_text 0 (placed_events w s count)) (Err x)
-  cut_short n now t u old mid new held kept left a b c e (Ok y) x le lt f is err line = cc
-  cut_short n now t u old mid new held kept left a b c e (Err y) x le lt f is err line =
+  pub cut_short : {T U E : Type 0} (n : ℕ) (now : Placed) (t u : Stream) (old mid new : Option (List ℕ)) (held kept left : List ℕ) (a b c : ℕ) (e : Event) (q : Result T E) (r : Result U E) → a ≤ b → n < count → SoFar w s count n now t old mid held kept
+      → next_of nat_eq now.surface now.names t ≡ Some (e, u) → IsErr q → IsErr r → Emits (outlet mid kept b) (outlet new left c) (event_text (n + 1) e) q
+      → Emits (outlet old held a) (outlet new left c) (events_text 0 (placed_events w s count)) r
+  cut_short n now t u old mid new held kept left a b c e q r le lt f is err out line =
       let rest = placed_events (next_world now e) u (count - (n + 1)) in
       let all : placed_events w s count ≡ f.taken ++ (e ∷ rest) =
       f.rest ∙ ap (λ es. f.taken ++ es) (ap (λ m. placed_events now t m) (let one : count - n ≡ suc (count - (n + 1)) = omega (arith, lt) in one) ∙ some_next now t u (count - (n + 1)) e is) in
       let text : events_text 0 (placed_events w s count) ≡ events_text 0 f.taken ++ (event_text (n + 1) e ++ events_text (n + 1) rest) =
       ap (events_text 0) all ∙ lines_split f.taken n e rest f.number in
-      record {
-        whole = tt;
-        cut =
-            subst (λ (z : List ℕ). Cut old new held left z) (sym text)
-            (cut_after old mid new held kept left (events_text 0 f.taken) (event_text (n + 1) e ++ events_text (n + 1) rest) f.text
-            (cut_longer mid new kept left (event_text (n + 1) e) (events_text (n + 1) rest) line.cut));
-        later = omega (arith, le, line.later);
-        cause = rose_earlier a b c le line.cause;
-      }
+      cut_part old mid new held kept left a b c (events_text 0 f.taken) (event_text (n + 1) e) (events_text (n + 1) rest) (events_text 0 (placed_events w s count)) q r text f.text le err out line

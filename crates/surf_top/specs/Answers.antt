@@ -6,24 +6,38 @@ use Rattle.surf_base.specs.Known.{AppendsFront}
 use Rattle.surf_manifest.specs.Grammar.{manifest_of}
 use Rattle.surf_top.specs.declared.status.Status.{Status}
 use Rattle.surf_top.specs.declared.status.Status.TheVariants.{Done, Refused, Usage, NotEnabled, ReadFault, WriteFault, NoMemory, TooLong}
-use Rattle.surf_top.specs.Jobs.{Job, Run, Format, Eval, Step, Replay}
+use Rattle.surf_top.specs.Jobs.{Job, Run, Format, Eval, Circuit, Set, Step, Replay}
 use Rattle.surf_top.specs.Outputs.{IsText, HasText, IsRefused, FindsBad, Shows}
+use Rattle.surf_blif.specs.Blifs.{parts_of}
+use Rattle.surf_top.specs.Compiled.{HoldsCircuit}
 use Rattle.surf_top.specs.Runs.{ShowsRun}
+use Rattle.surf_top.specs.Writes.{Writes}
 
 -- the most bytes that an input may have
 abbrev pub limit : ℕ
 limit = 268435456
 
--- the bytes and the counts of faults of a source and of a sink, at a call's entry and at its return
+-- the bytes that a source has left and its count of faults, at a call's entry and at its return, and what the call did to the output
 pub record Ends : Type 0 where
   pub left_before : Option (List ℕ)
   pub left_after : Option (List ℕ)
   pub reads_before : ℕ
   pub reads_after : ℕ
-  pub written_before : Option (List ℕ)
-  pub written_after : Option (List ℕ)
-  pub writes_before : ℕ
-  pub writes_after : ℕ
+  pub out : Writes
+
+-- the same, as a source tells them
+abbrev pub ends : {S : Type 0} → (S → Option (List ℕ)) → (S → ℕ) → S → S → Writes → Ends
+ends left faults old new out = record {
+  left_before = left old;
+  left_after = left new;
+  reads_before = faults old;
+  reads_after = faults new;
+  out = out;
+}
+
+-- no count of faults rose
+abbrev pub NoFaults : Ends → Type 0
+NoFaults e = (e.reads_after ≡ e.reads_before) × (e.out.now ≡ e.out.before)
 
 -- the input was read to its end, and it is not too long
 abbrev pub ReadWhole : Ends → (List ℕ → Type 0) → Type 0
@@ -42,12 +56,12 @@ pub record WroteFront (job : Job) (input : List ℕ) (old new : Option (List ℕ
   pub is : IsText job input text
   pub front : AppendsFront old new text
 
--- when each answer comes; nothing is said of want of memory
+-- when each answer comes; of want of memory nothing is said but that no fault was
 abbrev pub HasCauses : Option Job → Ends → Status → Type 0
 HasCauses None e Usage = Unit {0}
 HasCauses (Some job) e Usage = ⊥
 HasCauses None e Done = ⊥
-HasCauses (Some job) e Done = ReadWhole e (λ input. WroteWhole job input e.written_before e.written_after)
+HasCauses (Some job) e Done = ReadWhole e (λ input. WroteWhole job input e.out.old e.out.new)
 HasCauses None e (Refused r) = ⊥
 HasCauses (Some job) e (Refused r) = ReadWhole e (λ input. IsRefused job input r)
 HasCauses None e (NotEnabled k) = ⊥
@@ -57,27 +71,33 @@ HasCauses (Some job) e ReadFault = Rose e.reads_before e.reads_after
 HasCauses None e TooLong = ⊥
 HasCauses (Some job) e TooLong = IfSome e.left_before (λ input. limit < length input)
 HasCauses None e WriteFault = ⊥
-HasCauses (Some job) e WriteFault = Rose e.writes_before e.writes_after × ReadWhole e (λ input. WroteFront job input e.written_before e.written_after)
+HasCauses (Some job) e WriteFault = Rose e.out.before e.out.now × ReadWhole e (λ input. WroteFront job input e.out.old e.out.new)
 HasCauses None e NoMemory = ⊥
-HasCauses (Some job) e NoMemory = Unit {0}
+HasCauses (Some job) e NoMemory = NoFaults e
 
 -- Where the words are a command, the input is not too long, it has an output, and no count of faults rose, the answer is Done, or want of memory.
 abbrev pub IsComplete : Option Job → Ends → Status → Type 0
 IsComplete None e status = Unit {0}
 IsComplete (Some job) e status =
-    (Rose e.reads_before e.reads_after → ⊥) → (Rose e.writes_before e.writes_after → ⊥)
+    (Rose e.reads_before e.reads_after → ⊥) → (Rose e.out.before e.out.now → ⊥)
     → IfSome e.left_before (λ input. length input ≤ limit → HasText job input → (status ≡ Done) ⊎ (status ≡ NoMemory))
 
--- where `run` is done, a text was written that shows a run of the manifest that was read
+-- where the answer is Done, a text was written that shows this of the input
+abbrev pub PrintsWhat : Ends → Status → (List ℕ → List ℕ → Type 0) → Type 0
+PrintsWhat e status P =
+    status ≡ Done → IfSome e.left_before (λ input. (text : List ℕ) × P input text × Appends e.out.old e.out.new text)
+
+-- what `run` writes shows a run of the manifest that was read
 abbrev pub PrintsRun : Option Job → Ends → Status → Type 0
 PrintsRun None e status = Unit {0}
-PrintsRun (Some Format) e status = Unit {0}
-PrintsRun (Some (Eval bits)) e status = Unit {0}
-PrintsRun (Some (Step times)) e status = Unit {0}
-PrintsRun (Some Replay) e status = Unit {0}
-PrintsRun (Some (Run seed count)) e status =
-    status ≡ Done
-    → IfSome e.left_before (λ input. IfOk (manifest_of input) (λ m. (text : List ℕ) × ShowsRun m.system count text × Appends e.written_before e.written_after text))
+PrintsRun (Some (Run seed count)) e status = PrintsWhat e status (λ input text. IfOk (manifest_of input) (λ m. ShowsRun m.system count text))
+PrintsRun (Some job) e status = Unit {0}
+
+-- In what `circuit` writes the grammar reads a manifest and a legend. The legend names the inputs and outputs of the circuit that was read. Whichever bits the inputs are set to, no run has more events than the legend says, and a run that cannot go on has just so many and shows each output's value.
+abbrev pub PrintsCircuit : Option Job → Ends → Status → Type 0
+PrintsCircuit None e status = Unit {0}
+PrintsCircuit (Some Circuit) e status = PrintsWhat e status (λ input text. HoldsCircuit (parts_of input) text)
+PrintsCircuit (Some job) e status = Unit {0}
 
 -- the answers that leave the output as it was
 abbrev pub IsQuiet : Status → Type 0

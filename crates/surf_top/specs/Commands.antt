@@ -1,5 +1,5 @@
 -- How a command ends over an input that was read.
-use Rattle.std.specs.Prelude.{ℕ, ◌≡◌, List, Option}
+use Rattle.std.specs.Prelude.{ℕ, ◌≡◌, List, Result, Ok, Err}
 use Rattle.surf_base.specs.Causes.{Rose}
 use Rattle.surf_pick.specs.Draws.{seeded}
 use Rattle.surf_sim.specs.Simulations.{Simulation}
@@ -11,6 +11,10 @@ use Rattle.surf_manifest.specs.declared.error.ManifestError.{ManifestError}
 use Rattle.surf_manifest.specs.declared.error.ManifestError.TheVariants as faults
 use Rattle.surf_trace.specs.declared.error.TraceError.{TraceError}
 use Rattle.surf_trace.specs.declared.error.TraceError.TheVariants as traces
+use Rattle.surf_manifest_print.specs.declared.legend_error.LegendError.{LegendError}
+use Rattle.surf_manifest_print.specs.declared.legend_error.LegendError.TheVariants as legends
+use Rattle.surf_circuit.specs.declared.inputs.SetError.{SetError}
+use Rattle.surf_circuit.specs.declared.inputs.SetError.TheVariants as sets
 use Rattle.surf_top.specs.Jobs.{Job}
 use Rattle.surf_blif.specs.declared.error.BlifError.{BlifError}
 use Rattle.surf_blif.specs.declared.error.BlifError.TheVariants as blifs
@@ -18,9 +22,10 @@ use Rattle.surf_logic.specs.declared.values.EvalError.{EvalError}
 use Rattle.surf_logic.specs.declared.values.EvalError.TheVariants as evals
 use Rattle.surf_auto.specs.declared.error.SourceError.{SourceError}
 use Rattle.surf_auto.specs.declared.error.SourceError.TheVariants as sources
-use Rattle.surf_top.specs.declared.status.Refusal.TheVariants.{Manifest, Trace, Blif, Bits, Source}
+use Rattle.surf_top.specs.declared.status.Refusal.TheVariants.{Manifest, Legend, Trace, Blif, Bits, NotInput, Source}
 use Rattle.surf_top.specs.Outputs.{IsRefused, FindsBad}
 use Rattle.surf_top.specs.Answers.{WroteWhole, WroteFront}
+use Rattle.surf_top.specs.Writes.{Writes}
 
 -- a simulator of the manifest that no event was taken of, and the texts of its numbers
 pub record IsReady (m : ManifestText) (seed : ℕ) (sim : Simulation) (texts : List (List ℕ)) : Type 0 where
@@ -28,15 +33,20 @@ pub record IsReady (m : ManifestText) (seed : ℕ) (sim : Simulation) (texts : L
   pub seeds : sim.generator ≡ seeded seed
 
 -- which answers a job may give for an input that was read, and what it then wrote
-abbrev pub EndsJob : Job → List ℕ → Option (List ℕ) → Option (List ℕ) → ℕ → ℕ → Status → Type 0
-EndsJob job input old new before now Done = WroteWhole job input old new
-EndsJob job input old new before now (Refused r) = IsRefused job input r
-EndsJob job input old new before now (NotEnabled k) = FindsBad job input k
-EndsJob job input old new before now WriteFault = Rose before now × WroteFront job input old new
-EndsJob job input old new before now NoMemory = Unit {0}
-EndsJob job input old new before now Usage = ⊥
-EndsJob job input old new before now ReadFault = ⊥
-EndsJob job input old new before now TooLong = ⊥
+abbrev pub EndsJob : Job → List ℕ → Writes → Status → Type 0
+EndsJob job input w Done = WroteWhole job input w.old w.new
+EndsJob job input w (Refused r) = IsRefused job input r
+EndsJob job input w (NotEnabled k) = FindsBad job input k
+EndsJob job input w WriteFault = Rose w.before w.now × WroteFront job input w.old w.new
+EndsJob job input w NoMemory = w.now ≡ w.before
+EndsJob job input w Usage = ⊥
+EndsJob job input w ReadFault = ⊥
+EndsJob job input w TooLong = ⊥
+
+-- how a command ends that wrote its text so
+abbrev pub status_of : {T E : Type 0} → Result T E → Status
+status_of (Ok x) = Done
+status_of (Err e) = WriteFault
 
 -- a fault of a manifest refuses it; want of memory is an answer of its own
 abbrev pub answer_to : ManifestError → Status
@@ -54,6 +64,16 @@ answer_to (faults.TooManyRules n) = Refused (Manifest (faults.TooManyRules n))
 answer_to (faults.TooManySites n) = Refused (Manifest (faults.TooManySites n))
 answer_to faults.WrapSize = Refused (Manifest faults.WrapSize)
 answer_to faults.NoMemory = NoMemory
+
+abbrev pub answer_to_legend : LegendError → Status
+answer_to_legend (legends.BadLegend n) = Refused (Legend (legends.BadLegend n))
+answer_to_legend legends.NoLegend = Refused (Legend legends.NoLegend)
+answer_to_legend legends.NoMemory = NoMemory
+
+abbrev pub answer_to_set : SetError → Status
+answer_to_set (sets.Length found wanted) = Refused (Bits found wanted)
+answer_to_set (sets.NotInput s) = Refused (NotInput s)
+answer_to_set sets.NoMemory = NoMemory
 
 abbrev pub answer_to_trace : TraceError → Status
 answer_to_trace traces.NoTrace = Refused (Trace traces.NoTrace)

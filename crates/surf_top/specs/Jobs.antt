@@ -10,6 +10,8 @@ pub data Job : Type 0 where
   Run : ℕ → ℕ → Job
   Format : Job
   Eval : List Bool → Job
+  Circuit : Job
+  Set : List Bool → Job
   Step : ℕ → Job
   Replay : Job
 
@@ -22,6 +24,8 @@ abbrev pub meant : declared.Job → Job
 meant (variants.Run seed count) = Run seed count
 meant variants.Format = Format
 meant (variants.Eval bits) = Eval (bits_of bits.now)
+meant variants.Circuit = Circuit
+meant (variants.Set bits) = Set (bits_of bits.now)
 meant (variants.Step times) = Step times
 meant variants.Replay = Replay
 
@@ -30,8 +34,8 @@ job_for None = None
 job_for (Some (words.Run seed count)) = Some (Run seed count)
 job_for (Some words.Format) = Some Format
 job_for (Some (words.Eval bits)) = Some (Eval (bits_of bits))
-job_for (Some words.Circuit) = None
-job_for (Some (words.Set bits)) = None
+job_for (Some words.Circuit) = Some Circuit
+job_for (Some (words.Set bits)) = Some (Set (bits_of bits))
 job_for (Some (words.Automaton margin)) = None
 job_for (Some (words.Step times)) = Some (Step times)
 job_for (Some words.Replay) = Some Replay

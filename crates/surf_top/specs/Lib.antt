@@ -1,7 +1,10 @@
+pub mod Writes
 pub mod Jobs
 pub mod Runs
 pub mod Values
 pub mod Generations
+pub mod Compiled
+pub mod Sets
 pub mod Outputs
 pub mod Answers
 pub mod Notes

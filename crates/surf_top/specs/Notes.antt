@@ -1,5 +1,5 @@
 -- The line that goes to the notes, and the exit status.
-use Rattle.std.specs.Prelude.{ℕ, ◌≤◌, List, [], ◌∷◌, ◌++◌, Option, codes}
+use Rattle.std.specs.Prelude.{ℕ, ◌≤◌, List, [], ◌∷◌, ◌++◌, codes}
 use Rattle.std.specs.Fmt.{decimal}
 use Rattle.std.specs.Io.KnownBytes.{Appends}
 use Rattle.surf_base.specs.Causes.{Rose}
@@ -8,6 +8,8 @@ use Rattle.surf_manifest.specs.declared.error.ManifestError.{ManifestError}
 use Rattle.surf_manifest.specs.declared.error.ManifestError.TheVariants as faults
 use Rattle.surf_manifest.specs.declared.error.Block.{Block}
 use Rattle.surf_manifest.specs.declared.error.Block.TheVariants as blocks
+use Rattle.surf_manifest_print.specs.declared.legend_error.LegendError.{LegendError}
+use Rattle.surf_manifest_print.specs.declared.legend_error.LegendError.TheVariants as legends
 use Rattle.surf_trace.specs.declared.error.TraceError.{TraceError}
 use Rattle.surf_trace.specs.declared.error.TraceError.TheVariants as traces
 use Rattle.surf_logic.specs.declared.turns.CircuitError.{CircuitError}
@@ -19,9 +21,10 @@ use Rattle.surf_auto.specs.declared.error.SourceError.TheVariants as sources
 use Rattle.surf_top.specs.declared.words.Tail.{Tail}
 use Rattle.surf_top.specs.declared.words.Tail.TheVariants as tails
 use Rattle.surf_top.specs.declared.status.Refusal.{Refusal}
-use Rattle.surf_top.specs.declared.status.Refusal.TheVariants.{Manifest, Trace, Blif, Bits, Source}
+use Rattle.surf_top.specs.declared.status.Refusal.TheVariants.{Manifest, Legend, Trace, Blif, Bits, NotInput, Source}
 use Rattle.surf_top.specs.declared.status.Status.{Status}
 use Rattle.surf_top.specs.declared.status.Status.TheVariants.{Done, Refused, Usage, NotEnabled, ReadFault, WriteFault, NoMemory, TooLong}
+use Rattle.surf_top.specs.Writes.{Writes}
 
 -- the exit status
 abbrev pub code_of : Status → ℕ
@@ -68,6 +71,12 @@ fault_words (faults.TooManySites n) = codes "too-many-sites" ++ behind (decimal 
 fault_words faults.WrapSize = codes "wrap-size" ++ []
 fault_words faults.NoMemory = codes "no-memory" ++ []
 
+-- the words of a legend's fault; want of memory is never a refusal
+abbrev pub legend_words : LegendError → List ℕ
+legend_words (legends.BadLegend n) = codes "bad-legend" ++ behind (decimal n)
+legend_words legends.NoLegend = codes "no-legend" ++ []
+legend_words legends.NoMemory = codes "no-memory" ++ []
+
 -- the words of a trace's fault; want of memory is never a refusal
 abbrev pub trace_words : TraceError → List ℕ
 trace_words traces.NoTrace = codes "no-trace" ++ []
@@ -110,9 +119,11 @@ source_words sources.NoMemory = codes "no-memory" ++ []
 
 abbrev pub refusal_words : Refusal → List ℕ
 refusal_words (Manifest e) = fault_words e
+refusal_words (Legend e) = legend_words e
 refusal_words (Trace t) = trace_words t
 refusal_words (Blif e) = blif_words e
 refusal_words (Bits found wanted) = codes "bits" ++ (behind (decimal found) ++ behind (decimal wanted))
+refusal_words (NotInput s) = codes "not-input" ++ (behind (decimal s.x) ++ behind (decimal s.y))
 refusal_words (Source e) = source_words e
 
 -- the line of an answer; Done has none
@@ -127,7 +138,7 @@ note_of NoMemory = codes "surf: no memory\n"
 note_of TooLong = codes "surf: input longer than 268435456 bytes\n"
 
 -- a front of the line was written, and all of it where no fault rose
-pub record Notes (old new : Option (List ℕ)) (before now : ℕ) (line : List ℕ) : Type 0 where
-  pub front : AppendsFront old new line
-  pub whole : (Rose before now → ⊥) → Appends old new line
-  pub later : before ≤ now
+pub record Notes (w : Writes) (line : List ℕ) : Type 0 where
+  pub front : AppendsFront w.old w.new line
+  pub whole : (Rose w.before w.now → ⊥) → Appends w.old w.new line
+  pub later : w.before ≤ w.now

@@ -1,5 +1,5 @@
 // The trace of a simulation, event by event.
-ghost use Rattle.std.specs.Prelude.{◌≡◌, ◌++◌, OnOk, codes};
+ghost use Rattle.std.specs.Prelude.{◌≡◌, OnOk};
 ghost use Rattle.surf_base.specs.Emits.{Emits, outlet};
 ghost use Rattle.surf_pick.specs.Draws.{words_of};
 ghost use Rattle.surf_trace.specs.Traces.{event_text, events_text, trace_text};
@@ -18,7 +18,9 @@ fn print_event<K: Sink>(
     n: u64,
     event: &Event,
 ) -> Result<(), WriteFault>
-    ensures { Emits (outlet (K.written out.old) outbox.old (K.faults out.old)) (outlet (K.written out.new) outbox.new (K.faults out.new)) (event_text n event.now) result }
+    ensures { Emits (outlet (K.written out.old) outbox.old (K.faults out.old))
+        (outlet (K.written out.new) outbox.new (K.faults out.new))
+        (event_text n event.now) result }
 {
     let mut line = [0u8; 80];
     let len = put_event(&mut line, n, event);
@@ -32,35 +34,19 @@ fn print_events<L: Lattice, P: Picker, K: Sink>(
     outbox: &mut Outbox,
     out: &mut K,
 ) -> Result<(), WriteFault>
-    ensures emits { Emits (outlet (K.written out.old) outbox.old (K.faults out.old)) (outlet (K.written out.new) outbox.new (K.faults out.new)) (events_text 0 (placed_events sim.old.placed (words_of sim.old.generator) count)) result }
-    ensures world { OnOk result (sim.new.placed ≡ left_world sim.old.placed (placed_events sim.old.placed (words_of sim.old.generator) count)) }
+    ensures emits { Emits (outlet (K.written out.old) outbox.old (K.faults out.old))
+        (outlet (K.written out.new) outbox.new (K.faults out.new))
+        (events_text 0 (placed_events sim.old.placed (words_of sim.old.generator) count)) result }
+    ensures world { let events = placed_events sim.old.placed (words_of sim.old.generator) count in
+        OnOk result (sim.new.placed ≡ left_world sim.old.placed events) }
 {
     for n in 0..count {
         match sim.step() {
             None => return Ok(()),
-            Some(event) => match print_event(outbox, out, n + 1, &event) {
-                Ok(()) => {}
-                Err(fault) => return Err(fault),
-            },
+            Some(event) => print_event(outbox, out, n + 1, &event)?,
         }
     }
     Ok(())
-}
-
-// The lines of events and the end of their block.
-fn print_lines<L: Lattice, P: Picker, K: Sink>(
-    sim: &mut Sim<L, P>,
-    count: u64,
-    outbox: &mut Outbox,
-    out: &mut K,
-) -> Result<(), WriteFault>
-    ensures emits { Emits (outlet (K.written out.old) outbox.old (K.faults out.old)) (outlet (K.written out.new) outbox.new (K.faults out.new)) (events_text 0 (placed_events sim.old.placed (words_of sim.old.generator) count) ++ codes "!END_TRACE\n") result }
-    ensures world { OnOk result (sim.new.placed ≡ left_world sim.old.placed (placed_events sim.old.placed (words_of sim.old.generator) count)) }
-{
-    match print_events(sim, count, outbox, out) {
-        Ok(()) => outbox.put(out, b"!END_TRACE\n"),
-        Err(fault) => Err(fault),
-    }
 }
 
 /// Takes events until there are so many or none is enabled, and prints their trace block.
@@ -70,11 +56,13 @@ pub fn print_trace<L: Lattice, P: Picker, K: Sink>(
     outbox: &mut Outbox,
     out: &mut K,
 ) -> Result<(), WriteFault>
-    ensures emits { Emits (outlet (K.written out.old) outbox.old (K.faults out.old)) (outlet (K.written out.new) outbox.new (K.faults out.new)) (trace_text (placed_events sim.old.placed (words_of sim.old.generator) count)) result }
-    ensures world { OnOk result (sim.new.placed ≡ left_world sim.old.placed (placed_events sim.old.placed (words_of sim.old.generator) count)) }
+    ensures emits { Emits (outlet (K.written out.old) outbox.old (K.faults out.old))
+        (outlet (K.written out.new) outbox.new (K.faults out.new))
+        (trace_text (placed_events sim.old.placed (words_of sim.old.generator) count)) result }
+    ensures world { let events = placed_events sim.old.placed (words_of sim.old.generator) count in
+        OnOk result (sim.new.placed ≡ left_world sim.old.placed events) }
 {
-    match outbox.put(out, b"!START_TRACE\n") {
-        Ok(()) => print_lines(sim, count, outbox, out),
-        Err(fault) => Err(fault),
-    }
+    outbox.put(out, b"!START_TRACE\n")?;
+    print_events(sim, count, outbox, out)?;
+    outbox.put(out, b"!END_TRACE\n")
 }

@@ -14,6 +14,10 @@ pub enum Job<'a> {
     /// The values of a circuit's outputs where its inputs have the bits that a word of `0` and `1`
     /// spells.
     Eval { bits: &'a [u8] },
+    /// The manifest and the legend of a circuit's surface.
+    Circuit,
+    /// A manifest whose inputs are set to the bits that a word spells.
+    Set { bits: &'a [u8] },
     /// The states of an automaton's cells after so many steps.
     Step { times: u32 },
     /// Whether a trace is a run of the manifest before it.
@@ -21,7 +25,8 @@ pub enum Job<'a> {
 }
 
 fn job_for<'a>(command: &Command<'a>) -> Option<Job<'a>>
-    ensures { MatchOption result (job_for (Some (spoken command.now)) ≡ None) (λ j. job_for (Some (spoken command.now)) ≡ Some (meant j)) }
+    ensures { MatchOption result (job_for (Some (spoken command.now)) ≡ None)
+        (λ j. job_for (Some (spoken command.now)) ≡ Some (meant j)) }
 {
     match command {
         Command::Run { seed, count } => Some(Job::Run {
@@ -30,8 +35,8 @@ fn job_for<'a>(command: &Command<'a>) -> Option<Job<'a>>
         }),
         Command::Format => Some(Job::Format),
         Command::Eval { bits } => Some(Job::Eval { bits: *bits }),
-        Command::Circuit => None,
-        Command::Set { .. } => None,
+        Command::Circuit => Some(Job::Circuit),
+        Command::Set { bits } => Some(Job::Set { bits: *bits }),
         Command::Automaton { .. } => None,
         Command::Step { times } => Some(Job::Step { times: *times }),
         Command::Replay => Some(Job::Replay),
@@ -44,7 +49,8 @@ fn job_for<'a>(command: &Command<'a>) -> Option<Job<'a>>
 
 /// The job that the words ask for, if they spell a command that is carried out.
 pub fn read_job(words: &[String]) -> Option<Job<'_>>
-    ensures { MatchOption result (job_of (map string_bytes words.now) ≡ None) (λ j. job_of (map string_bytes words.now) ≡ Some (meant j)) }
+    ensures { MatchOption result (job_of (map string_bytes words.now) ≡ None)
+        (λ j. job_of (map string_bytes words.now) ≡ Some (meant j)) }
 {
     match read_words(words) {
         Ok(command) => job_for(&command),

@@ -1,11 +1,14 @@
 //! The program as one call.
 //!
 //! `surf` reads its words and its input, writes its output and notes why it did not end well. Its
-//! contract says which text each command writes, when each answer comes and what it leaves, over any
-//! source and sinks; `specs/Outputs.antt` and `specs/Answers.antt` hold the definitions.
+//! contract says which text each command writes, when each answer comes and what it leaves, over
+//! any source and sinks; `specs/Outputs.antt` and `specs/Answers.antt` hold the definitions.
 #![tactic(auto)]
 
+mod bits;
 mod canonical;
+mod cells;
+mod compiling;
 mod evaluating;
 mod events;
 mod job;
@@ -13,6 +16,7 @@ mod print;
 mod reasons;
 mod replaying;
 mod run;
+mod setting;
 mod status;
 mod stepping;
 mod top;

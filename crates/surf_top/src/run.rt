@@ -1,9 +1,6 @@
 // The command `run`.
-ghost use Rattle.std.specs.Prelude.{◌≡◌, ◌≤◌, ◌++◌, [], OnOk, OnErr, IfSome, length};
-ghost use Rattle.std.specs.Io.KnownBytes.{Appends};
-ghost use Rattle.surf_base.specs.Causes.{Rose};
+ghost use Rattle.std.specs.Prelude.{◌≡◌, ◌≤◌, IfSome, length};
 ghost use Rattle.surf_base.specs.Emits.{Emits, outlet};
-ghost use Rattle.surf_base.specs.Known.{AppendsFront};
 ghost use Rattle.surf_pick.specs.Draws.{words_of};
 ghost use Rattle.surf_rules.specs.Names.{text_of};
 ghost use Rattle.surf_world.specs.Renamings.{AreBelow};
@@ -11,11 +8,12 @@ ghost use Rattle.surf_top.specs.Prints.{placed_text};
 ghost use Rattle.surf_top.specs.Commands.{EndsJob, IsReady};
 ghost use Rattle.surf_top.specs.Answers.{IsQuiet};
 ghost use Rattle.surf_top.specs.Jobs.{Run};
+ghost use Rattle.surf_top.specs.Writes.{Wrote, writes};
 
 use crate::Status;
 use crate::events::print_trace;
 use crate::print::print_end;
-use crate::status::refused;
+use crate::status::{ended, refused};
 use std::alloc::Global;
 use surf_base::{Outbox, Sink, WriteFault};
 use surf_lattice::{Grid, Lattice};
@@ -33,12 +31,12 @@ fn print_held<L: Lattice, P: Picker, K: Sink>(
     out: &mut K,
 ) -> Result<(), WriteFault>
     requires { AreBelow (length names.now) sim.old.placed.surface sim.old.placed.names }
-    ensures { Emits (outlet (K.written out.old) outbox.old (K.faults out.old)) (outlet (K.written out.new) outbox.new (K.faults out.new)) (placed_text (text_of names.now) sim.old.placed (words_of sim.old.generator) count) result }
+    ensures { Emits (outlet (K.written out.old) outbox.old (K.faults out.old))
+        (outlet (K.written out.new) outbox.new (K.faults out.new))
+        (placed_text (text_of names.now) sim.old.placed (words_of sim.old.generator) count) result }
 {
-    match print_trace(sim, count, outbox, out) {
-        Ok(()) => print_end(sim.world(), names, outbox, out),
-        Err(fault) => Err(fault),
-    }
+    print_trace(sim, count, outbox, out)?;
+    print_end(sim.world(), names, outbox, out)
 }
 
 // Takes events until there are so many or none is enabled, and prints the run.
@@ -49,15 +47,12 @@ fn print_run<L: Lattice, P: Picker, K: Sink>(
     out: &mut K,
 ) -> Result<(), WriteFault>
     requires { AreBelow (length names.now) sim.old.placed.surface sim.old.placed.names }
-    ensures whole { OnOk result (Appends (K.written out.old) (K.written out.new) (placed_text (text_of names.now) sim.old.placed (words_of sim.old.generator) count)) }
-    ensures front { OnErr result (AppendsFront (K.written out.old) (K.written out.new) (placed_text (text_of names.now) sim.old.placed (words_of sim.old.generator) count)) }
-    ensures cause { OnErr result (Rose (K.faults out.old) (K.faults out.new)) }
+    ensures { Wrote (writes K.written K.faults out.old out.new)
+        (placed_text (text_of names.now) sim.old.placed (words_of sim.old.generator) count) result }
 {
     let mut outbox = Outbox::new();
-    match print_held(sim, names, count, &mut outbox, out) {
-        Ok(()) => outbox.flush(out),
-        Err(fault) => Err(fault),
-    }
+    print_held(sim, names, count, &mut outbox, out)?;
+    outbox.flush(out)
 }
 
 // The manifest's simulation and its names, or how the command ends without one.
@@ -77,7 +72,8 @@ fn simulator(alloc: Global, manifest: Manifest, seed: u64) -> Option<(Sim<Grid, 
 /// simulator is built.
 pub fn run<K: Sink>(alloc: Global, input: Vec<u8>, seed: u64, count: u64, out: &mut K) -> Status
     requires { length input.items ≤ 268435456 }
-    ensures ends { EndsJob (Run seed count) input.items (K.written out.old) (K.written out.new) (K.faults out.old) (K.faults out.new) result }
+    ensures ends { EndsJob (Run seed count) input.items
+        (writes K.written K.faults out.old out.new) result }
     ensures quiet { IsQuiet result → out.new ≡ out.old }
 {
     let manifest = match read_manifest(alloc, &input) {
@@ -88,8 +84,5 @@ pub fn run<K: Sink>(alloc: Global, input: Vec<u8>, seed: u64, count: u64, out: &
     let Some((mut sim, names)) = simulator(alloc, manifest, seed) else {
         return Status::NoMemory;
     };
-    match print_run(&mut sim, &names, count, out) {
-        Ok(()) => Status::Done,
-        Err(_) => Status::WriteFault,
-    }
+    ended(print_run(&mut sim, &names, count, out))
 }

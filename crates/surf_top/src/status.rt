@@ -1,20 +1,27 @@
 ghost use Rattle.std.specs.Prelude.{◌≡◌};
-ghost use Rattle.surf_top.specs.Commands.{answer_to, answer_to_bits, answer_to_blif, answer_to_source, answer_to_trace};
+ghost use Rattle.surf_top.specs.Commands.{answer_to, answer_to_bits, answer_to_blif, answer_to_legend, answer_to_set, answer_to_source, answer_to_trace, status_of};
 
 use surf_auto::SourceError;
+use surf_base::WriteFault;
 use surf_blif::BlifError;
 use surf_logic::EvalError;
+use surf_circuit::SetError;
+use surf_lattice::Site;
 use surf_manifest::ManifestError;
+use surf_manifest_print::LegendError;
 use surf_trace::TraceError;
 
 /// Why an input is refused. It never holds want of memory.
 #[derive(Debug, Drop)]
 pub enum Refusal {
     Manifest(ManifestError),
+    Legend(LegendError),
     Trace(TraceError),
     Blif(BlifError),
     /// There are so many bits, and the circuit has so many inputs.
     Bits { found: u64, wanted: u64 },
+    /// The site of an input is outside, or holds something else than `?`.
+    NotInput(Site),
     Source(SourceError),
 }
 
@@ -57,6 +64,16 @@ impl Status {
     }
 }
 
+// How a command ends that wrote its text so.
+pub fn ended(written: Result<(), WriteFault>) -> Status
+    ensures { result ≡ status_of written }
+{
+    match written {
+        Ok(()) => Status::Done,
+        Err(WriteFault) => Status::WriteFault,
+    }
+}
+
 // The answer to a text that is no manifest.
 pub fn refused(fault: ManifestError) -> Status
     ensures { result ≡ answer_to fault }
@@ -64,6 +81,27 @@ pub fn refused(fault: ManifestError) -> Status
     match fault {
         ManifestError::NoMemory => Status::NoMemory,
         fault => Status::Refused(Refusal::Manifest(fault)),
+    }
+}
+
+// The answer to a text that has no legend.
+pub fn refused_legend(fault: LegendError) -> Status
+    ensures { result ≡ answer_to_legend fault }
+{
+    match fault {
+        LegendError::NoMemory => Status::NoMemory,
+        fault => Status::Refused(Refusal::Legend(fault)),
+    }
+}
+
+// The answer where inputs are not set.
+pub fn refused_set(error: SetError) -> Status
+    ensures { result ≡ answer_to_set error }
+{
+    match error {
+        SetError::Length { found, wanted } => Status::Refused(Refusal::Bits { found, wanted }),
+        SetError::NotInput(site) => Status::Refused(Refusal::NotInput(site)),
+        SetError::NoMemory => Status::NoMemory,
     }
 }
 

@@ -1,15 +1,18 @@
 ghost use Rattle.std.specs.Prelude.{◌≡◌, ◌≤◌, length, map, string_bytes};
-ghost use Rattle.surf_top.specs.Answers.{HasCauses, IsComplete, IsQuiet, PrintsRun};
+ghost use Rattle.surf_top.specs.Answers.{HasCauses, IsComplete, IsQuiet, PrintsCircuit, PrintsRun, ends};
 ghost use Rattle.surf_top.specs.Commands.{EndsJob};
 ghost use Rattle.surf_top.specs.Notes.{Notes, note_of};
 ghost use Rattle.surf_top.specs.Jobs.{job_of, meant};
+ghost use Rattle.surf_top.specs.Writes.{writes};
 
 use crate::canonical::format;
+use crate::compiling::compile_circuit;
 use crate::evaluating::evaluate;
 use crate::job::read_job;
 use crate::reasons::note;
 use crate::replaying::check_trace;
 use crate::run::run;
+use crate::setting::set;
 use crate::stepping::show_generation;
 use crate::{Job, Status};
 use std::alloc::Global;
@@ -20,13 +23,16 @@ const LIMIT: u64 = 268_435_456;
 
 fn carry_out<K: Sink>(alloc: Global, job: &Job<'_>, input: Vec<u8>, out: &mut K) -> Status
     requires { length input.items ≤ 268435456 }
-    ensures ends { EndsJob (meant job.now) input.items (K.written out.old) (K.written out.new) (K.faults out.old) (K.faults out.new) result }
+    ensures ends { EndsJob (meant job.now) input.items
+        (writes K.written K.faults out.old out.new) result }
     ensures quiet { IsQuiet result → out.new ≡ out.old }
 {
     match job {
         Job::Run { seed, count } => run(alloc, input, *seed, *count, out),
         Job::Format => format(alloc, input, out),
         Job::Eval { bits } => evaluate(alloc, input, *bits, out),
+        Job::Circuit => compile_circuit(alloc, input, out),
+        Job::Set { bits } => set(alloc, input, *bits, out),
         Job::Step { times } => show_generation(alloc, input, *times, out),
         Job::Replay => check_trace(alloc, input, out),
     }
@@ -39,16 +45,9 @@ fn answer<S: Source, K: Sink>(
     source: &mut S,
     out: &mut K,
 ) -> Status
-    ensures causes { HasCauses (job_of (map string_bytes words.now)) (record {
-      left_before = S.left source.old;
-      left_after = S.left source.new;
-      reads_before = S.faults source.old;
-      reads_after = S.faults source.new;
-      written_before = K.written out.old;
-      written_after = K.written out.new;
-      writes_before = K.faults out.old;
-      writes_after = K.faults out.new;
-    }) result }
+    ensures causes { HasCauses (job_of (map string_bytes words.now))
+        (ends S.left S.faults source.old source.new (writes K.written K.faults out.old out.new))
+        result }
     ensures quiet { IsQuiet result → out.new ≡ out.old }
     ensures unread { result ≡ Status.Usage → source.new ≡ source.old }
 {
@@ -72,39 +71,21 @@ pub fn surf<S: Source, K: Sink, N: Sink>(
     out: &mut K,
     notes: &mut N,
 ) -> Status
-    ensures causes { HasCauses (job_of (map string_bytes words.now)) (record {
-      left_before = S.left source.old;
-      left_after = S.left source.new;
-      reads_before = S.faults source.old;
-      reads_after = S.faults source.new;
-      written_before = K.written out.old;
-      written_after = K.written out.new;
-      writes_before = K.faults out.old;
-      writes_after = K.faults out.new;
-    }) result }
-    ensures complete { IsComplete (job_of (map string_bytes words.now)) (record {
-      left_before = S.left source.old;
-      left_after = S.left source.new;
-      reads_before = S.faults source.old;
-      reads_after = S.faults source.new;
-      written_before = K.written out.old;
-      written_after = K.written out.new;
-      writes_before = K.faults out.old;
-      writes_after = K.faults out.new;
-    }) result }
-    ensures runs { PrintsRun (job_of (map string_bytes words.now)) (record {
-      left_before = S.left source.old;
-      left_after = S.left source.new;
-      reads_before = S.faults source.old;
-      reads_after = S.faults source.new;
-      written_before = K.written out.old;
-      written_after = K.written out.new;
-      writes_before = K.faults out.old;
-      writes_after = K.faults out.new;
-    }) result }
+    ensures causes { HasCauses (job_of (map string_bytes words.now))
+        (ends S.left S.faults source.old source.new (writes K.written K.faults out.old out.new))
+        result }
+    ensures complete { IsComplete (job_of (map string_bytes words.now))
+        (ends S.left S.faults source.old source.new (writes K.written K.faults out.old out.new))
+        result }
+    ensures runs { PrintsRun (job_of (map string_bytes words.now))
+        (ends S.left S.faults source.old source.new (writes K.written K.faults out.old out.new))
+        result }
+    ensures circuits { PrintsCircuit (job_of (map string_bytes words.now))
+        (ends S.left S.faults source.old source.new (writes K.written K.faults out.old out.new))
+        result }
     ensures quiet { IsQuiet result → out.new ≡ out.old }
     ensures unread { result ≡ Status.Usage → source.new ≡ source.old }
-    ensures noted { Notes (N.written notes.old) (N.written notes.new) (N.faults notes.old) (N.faults notes.new) (note_of result) }
+    ensures noted { Notes (writes N.written N.faults notes.old notes.new) (note_of result) }
 {
     let status = answer(alloc, words, source, out);
     note(&status, notes);

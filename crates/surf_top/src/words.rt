@@ -1,12 +1,13 @@
 // The words of a refusal.
 ghost use Rattle.std.specs.Prelude.{◌≡◌, ◌++◌};
-ghost use Rattle.surf_top.specs.Notes.{block_words, blif_words, circuit_words, fault_words, refusal_words, source_words, tail_text, trace_words};
+ghost use Rattle.surf_top.specs.Notes.{block_words, blif_words, circuit_words, fault_words, legend_words, refusal_words, source_words, tail_text, trace_words};
 
 use crate::Refusal;
 use surf_auto::SourceError;
 use surf_blif::BlifError;
 use surf_logic::CircuitError;
 use surf_manifest::{Block, ManifestError};
+use surf_manifest_print::LegendError;
 use surf_trace::TraceError;
 
 /// What follows the words of a refusal, each part behind a blank.
@@ -47,6 +48,16 @@ fn words_of_fault(fault: &ManifestError) -> (&'static [u8], Tail<'static>)
         ManifestError::TooManySites(count) => (b"too-many-sites", Tail::Line(*count)),
         ManifestError::WrapSize => (b"wrap-size", Tail::Nothing),
         ManifestError::NoMemory => (b"no-memory", Tail::Nothing),
+    }
+}
+
+fn words_of_legend(fault: &LegendError) -> (&'static [u8], Tail<'static>)
+    ensures { legend_words fault.now ≡ result.0.now ++ tail_text result.1 }
+{
+    match fault {
+        LegendError::BadLegend(line) => (b"bad-legend", Tail::Line(*line)),
+        LegendError::NoLegend => (b"no-legend", Tail::Nothing),
+        LegendError::NoMemory => (b"no-memory", Tail::Nothing),
     }
 }
 
@@ -114,9 +125,14 @@ pub fn words_of_refusal(refusal: &Refusal) -> (&'static [u8], Tail<'_>)
 {
     match refusal {
         Refusal::Manifest(fault) => words_of_fault(fault),
+        Refusal::Legend(fault) => words_of_legend(fault),
         Refusal::Trace(fault) => words_of_trace(fault),
         Refusal::Blif(error) => words_of_blif(error),
         Refusal::Bits { found, wanted } => (b"bits", Tail::Numbers(*found, *wanted)),
+        Refusal::NotInput(site) => {
+            let (x, y) = (u64::from(site.x), u64::from(site.y));
+            (b"not-input", Tail::Numbers(x, y))
+        }
         Refusal::Source(error) => words_of_source(error),
     }
 }

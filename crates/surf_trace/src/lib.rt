@@ -13,8 +13,6 @@ mod event_line;
 mod laws;
 mod line;
 mod split;
-#[cfg(test)]
-mod tests;
 mod verdict;
 
 pub use block::read_trace;

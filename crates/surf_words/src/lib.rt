@@ -5,8 +5,6 @@
 #![tactic(auto)]
 
 mod command;
-#[cfg(test)]
-mod tests;
 mod words;
 
 pub use command::Command;

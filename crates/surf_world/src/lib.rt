@@ -14,6 +14,3 @@ mod world;
 pub use event::Event;
 pub use theorems::{choice_laws, renaming_laws};
 pub use world::World;
-
-#[cfg(test)]
-mod tests;

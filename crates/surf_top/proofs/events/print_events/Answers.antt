@@ -1,4 +1,4 @@
-use Rattle.std.proofs.Common.{rules, arith, ◌<◌, ◌≤◌, ◌+◌, ap, sym, ◌∙◌, subst}
+use Rattle.std.proofs.Common.{rules, arith, ◌<◌, ◌≤◌, ◌+◌, ap, sym, ◌∙◌, subst, IsErr}
 use Rattle.surf_pick.specs.Draws.{words_of}
 use Rattle.surf_world.specs.Worlds.{Placed}
 use Rattle.surf_top.specs.Prints.{SoFar}
@@ -16,11 +16,12 @@ returns-in-None-clause-world g c =
     ap (λ v. v.placed) c.in-None.ensures.step.1
     ∙ stopped_world c.args.sim.now.placed (words_of c.args.sim.now.generator) c.args.count c.loop-n.n c.loop-n.sim.placed (words_of c.loop-n.sim.generator) _ _ _ _ lt c.loop-n.invariant.so_far c.in-None.ensures.step.0
 
-pub returns-in-Err-clause-emits : goal.returns-in-Err-clause-emits
-returns-in-Err-clause-emits g c =
+pub returns-in_err-print_event-in-Some-clause-emits : goal.returns-in_err-print_event-in-Some-clause-emits
+returns-in_err-print_event-in-Some-clause-emits g c =
     let lt : c.loop-n.n < c.args.count = search rules in
+    let failed : IsErr c.print_event.result = search rules in
     cut_short c.args.sim.now.placed (words_of c.args.sim.now.generator) c.args.count c.loop-n.n c.loop-n.sim.placed (words_of c.loop-n.sim.generator) (words_of c.step.new.self.generator)
-    _ _ _ _ _ _ _ _ _ c.in-Some.event c.print_event.result c.in-Err.fault c.loop-n.invariant.later lt c.loop-n.invariant.so_far c.in-Some.ensures.step.0 c.in-Err.is c.print_event.ensures
+    _ _ _ _ _ _ _ _ _ c.in-Some.event c.print_event.result _ c.loop-n.invariant.later lt c.loop-n.invariant.so_far c.in-Some.ensures.step.0 failed c.from_residual.ensures.0 c.print_event.ensures
 
 pub loop-n-preserved : goal.loop-n-preserved
 loop-n-preserved g c =
@@ -30,7 +31,7 @@ loop-n-preserved g c =
           subst (λ (v : Placed). SoFar c.args.sim.now.placed (words_of c.args.sim.now.generator) c.args.count (c.loop-n.n + 1) v (words_of c.step.new.self.generator) (g.K.Sink.written c.args.out.now) (g.K.Sink.written c.print_event.new.out) c.args.outbox.now c.print_event.new.outbox)
           (sym c.in-Some.ensures.step.1)
           (went_on c.args.sim.now.placed (words_of c.args.sim.now.generator) c.args.count c.loop-n.n c.loop-n.sim.placed (words_of c.loop-n.sim.generator) (words_of c.step.new.self.generator)
-          _ _ _ _ _ _ c.in-Some.event lt c.loop-n.invariant.so_far c.in-Some.ensures.step.0 c.in-Ok.ensures.whole);
+          _ _ _ _ _ _ c.in-Some.event lt c.loop-n.invariant.so_far c.in-Some.ensures.step.0 c.in_ok-print_event-in-Some.ensures.whole);
       later = omega (arith, c.loop-n.invariant.later, c.print_event.ensures.later);
     }
 

@@ -1,51 +1,43 @@
-use Rattle.std.proofs.Common.{rules, arith, Some, ◌≡◌, ◌<◌, ◌≤◌, ◌+◌, ◌*◌, map, take, drop, length, ap, sym, ◌∙◌, slice_get}
-use Rattle.std.proofs.lemmas.List.{length-map}
-use Rattle.surf_rules.specs.Names.{text_of}
-use Rattle.surf_top.specs.Prints.{behind_name}
+use Rattle.std.proofs.Common.{rules, arith, Some, ◌≡◌, ◌<◌, ◌≤◌, ◌+◌, ◌*◌, take, drop, length, ap, sym, ◌∙◌, slice_get, IsErr}
+use Rattle.surf_base.specs.Pieces.{piece_text}
 use Rattle.surf_top.proofs.Rows.{row_long, row_at, cell_sent, cell_cut, row_done}
 use Rattle.surf_top.proofs.print.print_row.Goals as goal
 
 pub loop-x-preserved : goal.loop-x-preserved
 loop-x-preserved g c =
-    let w = c.args.world.now.surface.grid.width in
-    let names = map (text_of c.args.names.now) c.args.world.now.names in
-    let row = take w (drop (c.args.y * w) names) in
-    let width = c.loop-x.invariant.width in
-    let len : length row ≡ w = row_long w c.args.world.now.surface.grid.height c.args.y names (length-map c.args.world.now.names (text_of c.args.names.now) ∙ c.requires.sides) c.requires.row in
-    let below : c.loop-x.x < c.width-width.result = search rules in
-    let lt : c.loop-x.x < w = omega (arith, below, width) in
-    let at : slice_get row c.loop-x.x ≡ Some c.text_at-text.result.now =
-    row_at w (c.args.y * w) c.loop-x.x names c.text_at-text.result.now lt len
-    (ap (λ k. slice_get names (c.args.y * k + c.loop-x.x)) (sym width) ∙ c.text_at-text.ensures) in
+    let w = c.args.width in
+    let texts = g.C.Cells.texts c.args.cells.now in
+    let row = take w (drop (c.args.y * w) texts) in
+    let len : length row ≡ w = row_long w c.args.y texts c.requires.within in
+    let lt : c.loop-x.x < w = search rules in
+    let at : slice_get row c.loop-x.x ≡ Some (piece_text c.piece-cell.result) =
+    row_at w (c.args.y * w) c.loop-x.x texts (piece_text c.piece-cell.result) lt len
+    (ap (λ k. slice_get texts (k + c.loop-x.x)) (sym c.loop-x.invariant.first) ∙ c.piece-cell.ensures) in
     record {
-      width = width;
-      first = ap (λ k. c.args.y * k) width;
-      sent = cell_sent w row len c.loop-x.x c.text_at-text.result.now at c.behind_name.result (c.behind_name.ensures ∙ ap (λ k. behind_name k c.loop-x.x) width) _ _ _ _ _ _ c.loop-x.invariant.sent c.in-Ok.ensures.whole;
-      later = omega (arith, c.loop-x.invariant.later, c.print_name.ensures.later);
+      first = c.loop-x.invariant.first;
+      sent = cell_sent w row len c.loop-x.x (piece_text c.piece-cell.result) at c.behind_name.result c.behind_name.ensures _ _ _ _ _ _ c.loop-x.invariant.sent c.in_ok-put_pieces.ensures.whole;
+      later = omega (arith, c.loop-x.invariant.later, c.put_pieces.ensures.later);
     }
 
-pub returns-in-Err : goal.returns-in-Err
-returns-in-Err g c =
-    let w = c.args.world.now.surface.grid.width in
-    let names = map (text_of c.args.names.now) c.args.world.now.names in
-    let row = take w (drop (c.args.y * w) names) in
-    let width = c.loop-x.invariant.width in
-    let len : length row ≡ w = row_long w c.args.world.now.surface.grid.height c.args.y names (length-map c.args.world.now.names (text_of c.args.names.now) ∙ c.requires.sides) c.requires.row in
-    let below : c.loop-x.x < c.width-width.result = search rules in
-    let lt : c.loop-x.x < w = omega (arith, below, width) in
-    let at : slice_get row c.loop-x.x ≡ Some c.text_at-text.result.now =
-    row_at w (c.args.y * w) c.loop-x.x names c.text_at-text.result.now lt len
-    (ap (λ k. slice_get names (c.args.y * k + c.loop-x.x)) (sym width) ∙ c.text_at-text.ensures) in
-    cell_cut w row len c.loop-x.x c.text_at-text.result.now at c.behind_name.result (c.behind_name.ensures ∙ ap (λ k. behind_name k c.loop-x.x) width)
-    _ _ _ _ _ _ _ _ _ c.print_name.result c.in-Err.fault (omega (arith, lt)) c.loop-x.invariant.sent c.loop-x.invariant.later c.in-Err.is c.print_name.ensures
+pub returns-in_err-put_pieces : goal.returns-in_err-put_pieces
+returns-in_err-put_pieces g c =
+    let w = c.args.width in
+    let texts = g.C.Cells.texts c.args.cells.now in
+    let row = take w (drop (c.args.y * w) texts) in
+    let len : length row ≡ w = row_long w c.args.y texts c.requires.within in
+    let lt : c.loop-x.x < w = search rules in
+    let at : slice_get row c.loop-x.x ≡ Some (piece_text c.piece-cell.result) =
+    row_at w (c.args.y * w) c.loop-x.x texts (piece_text c.piece-cell.result) lt len
+    (ap (λ k. slice_get texts (k + c.loop-x.x)) (sym c.loop-x.invariant.first) ∙ c.piece-cell.ensures) in
+    let failed : IsErr c.put_pieces.result = search rules in
+    cell_cut w row len c.loop-x.x (piece_text c.piece-cell.result) at c.behind_name.result c.behind_name.ensures
+    _ _ _ _ _ _ _ _ _ c.put_pieces.result _ (omega (arith, lt)) c.loop-x.invariant.sent c.loop-x.invariant.later failed c.from_residual.ensures.0 c.put_pieces.ensures
 
 pub returns : goal.returns
 returns g c =
-    let w = c.args.world.now.surface.grid.width in
-    let names = map (text_of c.args.names.now) c.args.world.now.names in
-    let row = take w (drop (c.args.y * w) names) in
-    let width = c.loop-x.invariant.width in
-    let len : length row ≡ w = row_long w c.args.world.now.surface.grid.height c.args.y names (length-map c.args.world.now.names (text_of c.args.names.now) ∙ c.requires.sides) c.requires.row in
-    let ge : c.width-width.result ≤ c.loop-x.x = search rules in
-    let some : 1 ≤ w = omega (arith, c.width-width.ensures.sides.wide, c.width-width.ensures.side, width) in
-    row_done w row c.loop-x.x _ _ _ _ _ _ len some (omega (arith, ge, width)) c.loop-x.invariant.sent c.loop-x.invariant.later
+    let w = c.args.width in
+    let texts = g.C.Cells.texts c.args.cells.now in
+    let row = take w (drop (c.args.y * w) texts) in
+    let len : length row ≡ w = row_long w c.args.y texts c.requires.within in
+    let ge : w ≤ c.loop-x.x = search rules in
+    row_done w row c.loop-x.x _ _ _ _ _ _ len c.requires.some ge c.loop-x.invariant.sent c.loop-x.invariant.later

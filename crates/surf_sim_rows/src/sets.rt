@@ -1,0 +1,97 @@
+// Which weights an event sets again, and how often.
+use crate::sims::rules;
+use std::alloc::Global;
+use std::marker::Model;
+use std::test::Fail;
+use surf_base::NoMemory;
+use surf_lattice::{Hex, Lattice, Square, Torus};
+use surf_pick::{Draw, Picker, PlainPicker};
+use surf_sim::Sim;
+use surf_world::World;
+
+// A picker that counts how often each weight was set.
+#[derive(Drop)]
+struct Counted {
+    plain: PlainPicker,
+    counts: Vec<u64>,
+}
+
+impl Model for Counted {
+    ghost use Rattle.std.specs.Prelude.{List, ℕ, length, ◌≡◌};
+
+    ghost Value = { List ℕ × ℕ };
+
+    ghost view = { λ p. p.plain };
+
+    ghost invariant = { λ p. length p.counts.items ≡ length p.plain.0 };
+}
+
+impl Picker for Counted {
+    ghost weights = { λ p. p.0 };
+
+    ghost sets = { λ p. p.1 };
+
+    fn build(alloc: Global, list: Vec<u128>) -> Result<Self, NoMemory> {
+        let counts = vec![in alloc; 0u64; list.len()].map_err(|_| NoMemory)?;
+        let plain = PlainPicker::build(alloc, list)?;
+        Ok(Counted { plain, counts })
+    }
+
+    fn set(&mut self, place: usize, weight: u128) {
+        self.plain.set(place, weight);
+        self.counts[place] = self.counts[place].saturating_add(1);
+    }
+
+    fn total(&self) -> u128 {
+        self.plain.total()
+    }
+
+    fn find(&self, r: u128) -> (usize, u128) {
+        self.plain.find(r)
+    }
+}
+
+// How often the first event of a world sets each weight.
+fn sets_of_a_step<L: Lattice + Drop>(alloc: Global, world: World<L>) -> Result<Vec<u64>, Fail> {
+    let mut sim = Sim::<L, Counted>::new(alloc, world, Draw::new(1))?;
+    let _event = sim.step();
+    Ok(sim.picker().counts.clone()?)
+}
+
+#[test]
+fn sets_each_weight_once(rt: HostRuntime) -> Result<(), Fail> {
+    let alloc = rt.alloc();
+    let pair = [0, 0, 0, 0, 0, 7, 5, 0, 0, 0, 0, 0];
+
+    let start = Vec::from_array(alloc, pair)?;
+    let world = World::new(alloc, Square::new(4, 3), rules(alloc)?, start)?;
+    let eight = [0, 1, 1, 0, 1, 1, 1, 1, 0, 1, 1, 0];
+    assert_eq!(rt; sets_of_a_step(alloc, world)?.as_slice(), eight.as_slice());
+
+    let start = Vec::from_array(alloc, pair)?;
+    let world = World::new(alloc, Hex::new(4, 3), rules(alloc)?, start)?;
+    let ten = [1, 1, 1, 0, 1, 1, 1, 1, 0, 1, 1, 1];
+    assert_eq!(rt; sets_of_a_step(alloc, world)?.as_slice(), ten.as_slice());
+    Ok(())
+}
+
+#[test]
+fn sets_a_site_beside_both_once(rt: HostRuntime) -> Result<(), Fail> {
+    let alloc = rt.alloc();
+    let start = vec![in alloc; 0, 0, 0, 0, 7, 5, 0, 0, 0]?;
+    let torus = Torus::new(Square::new(3, 3));
+    let world = World::new(alloc, torus, rules(alloc)?, start)?;
+    let seven = [0, 1, 1, 1, 1, 1, 0, 1, 1];
+    assert_eq!(rt; sets_of_a_step(alloc, world)?.as_slice(), seven.as_slice());
+    Ok(())
+}
+
+#[test]
+fn sets_the_weights_around_one_site(rt: HostRuntime) -> Result<(), Fail> {
+    let alloc = rt.alloc();
+    let start = vec![in alloc; 0, 0, 0, 0, 0, 9]?;
+    let world = World::new(alloc, Square::new(3, 2), rules(alloc)?, start)?;
+    let three = [0, 0, 1, 0, 1, 1];
+    assert_eq!(rt; sets_of_a_step(alloc, world)?.as_slice(), three.as_slice());
+    Ok(())
+}

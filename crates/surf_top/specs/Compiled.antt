@@ -1,0 +1,27 @@
+-- The surface of a circuit, as text.
+use Rattle.std.specs.Prelude.{ℕ, ◌≡◌, List, Some, Result, Ok}
+use Rattle.surf_logic.specs.Equations.{PartsOf, Numbered}
+use Rattle.surf_blif.specs.Blifs.{IsRead}
+use Rattle.surf_manifest.specs.Grammar.{ManifestText, manifest_of}
+use Rattle.surf_manifest_print.specs.Legends.{LegendText}
+use Rattle.surf_manifest_print.specs.LegendTexts.{legend_of}
+use Rattle.surf_manifest_print.specs.Prints.{print_of}
+use Rattle.surf_circuit.specs.Circuits.{CircuitHolds}
+use Rattle.surf_circuit.specs.Compiled.{IsSurfaceOf}
+
+-- the text is the print of the surface of the circuit that the input spells
+pub record IsCompiled (input text : List ℕ) : Type 0 where
+  pub circuit : Numbered
+  pub read : IsRead input circuit
+  pub manifest : ManifestText
+  pub legend : LegendText
+  pub surface : IsSurfaceOf circuit manifest legend
+  pub is : text ≡ print_of manifest (Some legend)
+
+-- the grammar reads in the text a manifest and a legend that compute the circuit, whichever bits its inputs are set to
+pub record HoldsCircuit (B : PartsOf (List ℕ)) (text : List ℕ) : Type 0 where
+  pub manifest : ManifestText
+  pub legend : LegendText
+  pub read : manifest_of text ≡ Ok manifest
+  pub told : legend_of text ≡ Ok legend
+  pub computes : CircuitHolds B manifest.system legend

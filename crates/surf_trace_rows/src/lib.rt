@@ -1,0 +1,14 @@
+//! Tests of runs and traces over several crates.
+//!
+//! Both pickers on many surfaces, and recorded runs of which one number is changed, against a plain
+//! reading of their rules.
+#![tactic(auto)]
+
+#[cfg(test)]
+mod changes;
+#[cfg(test)]
+mod manifests;
+#[cfg(test)]
+mod pickers;
+#[cfg(test)]
+mod traces;
