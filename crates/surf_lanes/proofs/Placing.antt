@@ -4,14 +4,14 @@ use Rattle.std.proofs.Math.ListN.{set, length-set}
 use Rattle.std.proofs.lemmas.Bool.{cases_lt, cases_eq}
 use Rattle.std.proofs.lemmas.List.{get_or_append_left, get_or_push, length_push}
 use Rattle.surf_lanes.specs.declared.lanes.Span.{Span}
-use Rattle.surf_lanes.specs.Lanes.{span_at, IsInOrder, LanesOf, Earlier, IsPacked, AreApart, AreBelow, Packing, IsPlaced}
+use Rattle.surf_lanes.specs.Lanes.{span_at, IsInOrder, LanesOf, Earlier, IsPacked, AreApart, AreBelow, PackingOf, IsPlaced}
 use Rattle.surf_lanes.proofs.Overlaps.{least_is_packed, lane_below, lanes_apart}
 
-abbrev pub lanes_of : Packing → LanesOf
+abbrev pub lanes_of : PackingOf → LanesOf
 lanes_of p = record { lane = p.lane; count = length p.last; row = p.row }
 
 -- the last row in a lane is that of one of its spans
-pub record IsLast (spans : List Span) (p : Packing) (done k row : ℕ) : Type 0 where
+pub record IsLast (spans : List Span) (p : PackingOf) (done k row : ℕ) : Type 0 where
   pub most : (j : ℕ) → j < done → get_or p.lane j 0 ≡ k → (span_at spans j).to ≤ row
   pub span : ℕ
   pub within : span < done
@@ -19,7 +19,7 @@ pub record IsLast (spans : List Span) (p : Packing) (done k row : ℕ) : Type 0 
   pub to : (span_at spans span).to ≡ row
 
 -- the first span in the last lane
-pub record IsNewestOf (spans : List Span) (p : Packing) (done : ℕ) : Type 0 where
+pub record IsNewestOf (spans : List Span) (p : PackingOf) (done : ℕ) : Type 0 where
   pub span : ℕ
   pub within : span < done
   pub last : get_or p.lane span 0 + 1 ≡ length p.last
@@ -27,7 +27,7 @@ pub record IsNewestOf (spans : List Span) (p : Packing) (done : ℕ) : Type 0 wh
   pub before : (j : ℕ) → j < span → get_or p.lane j 0 < get_or p.lane span 0
 
 -- so many spans are packed
-pub record IsSoFar (spans : List Span) (done : ℕ) (p : Packing) : Type 0 where
+pub record IsSoFar (spans : List Span) (done : ℕ) (p : PackingOf) : Type 0 where
   pub as_many : length p.lane ≡ done
   pub few : length p.last ≤ done
   pub free : (i : ℕ) → i < done → Earlier spans (lanes_of p) i (get_or p.lane i 0) → ⊥
@@ -48,7 +48,7 @@ none_so_far spans = record {
 }
 
 -- earlier lanes stay as they were
-module _ (spans : List Span) (p q : Packing) (done free : ℕ) (long : length p.lane ≡ done) (is : q.lane ≡ p.lane ++ free ∷ []) where
+module _ (spans : List Span) (p q : PackingOf) (done free : ℕ) (long : length p.lane ≡ done) (is : q.lane ≡ p.lane ++ free ∷ []) where
   same : (j : ℕ) → j < done → get_or q.lane j 0 ≡ get_or p.lane j 0
   same j b = ap (λ (l : List ℕ). get_or l j 0) is ∙ get_or_append_left p.lane (free ∷ []) 0 j (omega (arith, long, b))
 
@@ -88,7 +88,7 @@ module _ (spans : List Span) (p q : Packing) (done free : ℕ) (long : length p.
   }
 
 -- one span more
-pub placed_so_far : (spans : List Span) (done : ℕ) (p q : Packing) → IsInOrder spans → done < length spans → IsSoFar spans done p → IsPlaced p q (span_at spans done) → IsSoFar spans (done + 1) q
+pub placed_so_far : (spans : List Span) (done : ℕ) (p q : PackingOf) → IsInOrder spans → done < length spans → IsSoFar spans done p → IsPlaced p q (span_at spans done) → IsSoFar spans (done + 1) q
 placed_so_far spans done p q order within so placed = record {
   as_many = ap length placed.lane ∙ length_push p.lane free ∙ ap (λ (n : ℕ). n + 1) so.as_many;
   few = (let w = grown in let f = so.few in omega (arith, w, f));
@@ -206,13 +206,13 @@ placed_so_far spans done p q order within so placed = record {
         })
 
 -- when all are placed, they are packed
-pub all_packed : (spans : List Span) (p : Packing) → IsInOrder spans → IsSoFar spans (length spans) p → IsPacked spans (lanes_of p)
+pub all_packed : (spans : List Span) (p : PackingOf) → IsInOrder spans → IsSoFar spans (length spans) p → IsPacked spans (lanes_of p)
 all_packed spans p order so =
     least_is_packed spans (lanes_of p) order (record { as_many = so.as_many; free = so.free; least = so.least }) so.below
     (⊎_elim (λ n. inl n) (λ n. inr (n.span, record { within = n.within; last = n.last; row = n.row; before = n.before })) so.newest)
 
 -- the same of the lanes that are handed out
-pub handed_packed : (spans : List Span) (p : Packing) (count : ℕ) (done : ℕ) → IsInOrder spans → IsSoFar spans done p → done ≡ length spans → count ≡ length p.last → IsPacked spans (record { lane = p.lane; count = count; row = p.row })
+pub handed_packed : (spans : List Span) (p : PackingOf) (count : ℕ) (done : ℕ) → IsInOrder spans → IsSoFar spans done p → done ≡ length spans → count ≡ length p.last → IsPacked spans (record { lane = p.lane; count = count; row = p.row })
 handed_packed spans p count done order so all many =
     subst (λ (n : ℕ). IsPacked spans (record { lane = p.lane; count = n; row = p.row })) (sym many) (all_packed spans p order (subst (λ (n : ℕ). IsSoFar spans n p) all so))
 

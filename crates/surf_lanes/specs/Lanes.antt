@@ -1,6 +1,7 @@
 -- Spans of rows, and how they are packed into lanes.
 use Rattle.std.specs.Prelude.{◌≡◌, ℕ, zero, suc, ◌+◌, ◌<◌, ◌≤◌, ◌⊎◌, Bool, cond, ◌&&◌, nat_le, List, [], ◌∷◌, ◌++◌, length, slice_index_or, slice_set}
 use Rattle.surf_lanes.specs.declared.lanes.Span.{Span}
+use Rattle.surf_lanes.specs.declared.packing.Packing.{Packing}
 
 abbrev pub span_at : List Span → ℕ → Span
 span_at spans i = slice_index_or spans i (record { from = 1; to = 0 })
@@ -76,10 +77,13 @@ PackedIsOne = (spans : List Span) (l l' : LanesOf) → IsPacked spans l → IsPa
     ((i : ℕ) → i < length spans → lane_at l i ≡ lane_at l' i) × (l.count ≡ l'.count) × (l.row ≡ l'.row)
 
 -- lanes while spans are packed one after another, with the last row in each lane
-pub record Packing : Type 0 where
+pub record PackingOf : Type 0 where
   pub lane : List ℕ
   pub last : List ℕ
   pub row : ℕ
+
+abbrev pub packing_of : Packing → PackingOf
+packing_of p = record { lane = p.lane.items; last = p.last.items; row = p.row }
 
 -- the lane is the first that is free from a row on, or a new one
 pub record IsFirstFree (last : List ℕ) (row lane : ℕ) : Type 0 where
@@ -88,7 +92,7 @@ pub record IsFirstFree (last : List ℕ) (row lane : ℕ) : Type 0 where
   pub before : (k : ℕ) → k < lane → row ≤ slice_index_or last k 0
 
 -- one span more, in that lane
-pub record IsPlaced (old new : Packing) (span : Span) : Type 0 where
+pub record IsPlaced (old new : PackingOf) (span : Span) : Type 0 where
   pub free : ℕ
   pub first : IsFirstFree old.last span.from free
   pub lane : new.lane ≡ old.lane ++ free ∷ []

@@ -1,6 +1,6 @@
 //! Spans packed one after another.
 ghost use Rattle.std.specs.Prelude.{◌≡◌, ℕ, ◌<◌, ◌≤◌, ◌^◌, [], length, IfOk, OnOk};
-ghost use Rattle.surf_lanes.specs.Lanes.{AreApart, AreBelow, IsFirstFree, IsInOrder, IsPacked, IsPlaced};
+ghost use Rattle.surf_lanes.specs.Lanes.{AreApart, AreBelow, IsFirstFree, IsInOrder, IsPacked, IsPlaced, packing_of};
 
 use crate::lanes::{Lanes, Span};
 use std::alloc::Global;
@@ -31,9 +31,7 @@ impl Packing {
     // Packs one span more.
     fn add(&mut self, span: Span) -> Result<(), NoMemory>
         requires { length self.old.last.items < 2 ^ 32 }
-        ensures { OnOk result (IsPlaced
-            (record { lane = self.old.lane.items; last = self.old.last.items; row = self.old.row })
-            (record { lane = self.new.lane.items; last = self.new.last.items; row = self.new.row }) span) }
+        ensures { OnOk result (IsPlaced (packing_of self.old) (packing_of self.new) span) }
     {
         let lane = first_free(&self.last, span.from);
         self.lane.push(lane as u32).map_err(|_| NoMemory)?;

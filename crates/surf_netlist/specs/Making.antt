@@ -1,6 +1,7 @@
 -- How gates are made one after another: those so far, and the signed net that they give, if any.
-use Rattle.std.specs.Prelude.{ℕ, ◌+◌, Option, Some, None, List, [], ◌∷◌, ◌++◌, length, slice_index_or, slice_set}
+use Rattle.std.specs.Prelude.{ℕ, ◌+◌, Option, Some, None, List, [], ◌∷◌, ◌++◌, length, slice_index_or, slice_set, vec_len}
 use Rattle.surf_tiles.specs.declared.netlist.Gate.{Gate}
+use Rattle.surf_netlist.specs.declared.gate_list.GateList.{GateList}
 use Rattle.surf_netlist.specs.declared.signed.Signed.{Signed}
 use Rattle.surf_netlist.specs.Gates.{plain, and_gate, or_gate}
 
@@ -39,3 +40,16 @@ net_at nets x = slice_index_or nets x 0
 abbrev pub numbered : List ℕ → (next : ℕ) → (names : List ℕ) → List ℕ
 numbered nets next [] = nets
 numbered nets next (name ∷ names) = numbered (slice_set nets name next) (next + 1) names
+
+abbrev pub making_of : GateList → Option Signed → Making
+making_of g so_far = record { gates = g.gates.items; so_far = so_far }
+
+-- the net of the next gate
+abbrev pub next_net : GateList → ℕ
+next_net g = g.inputs + vec_len g.gates
+
+abbrev pub and_row : GateList → List Signed → Making
+and_row g row = and_all g.inputs g.gates.items None row
+
+abbrev pub or_rows : GateList → List (List Signed) → Making
+or_rows g rows = or_all g.inputs g.gates.items None rows

@@ -5,7 +5,7 @@ ghost use Rattle.surf_logic.specs.Equations.{equation_cost};
 ghost use Rattle.surf_logic.specs.Order.{EquationInRange};
 ghost use Rattle.surf_netlist.specs.Gates.{plain, signed_row, complement_last, finished, gates_of_equation};
 ghost use Rattle.surf_netlist.specs.Circuits.{gates_from, nets_from};
-ghost use Rattle.surf_netlist.specs.Making.{with_and, with_or, and_all, or_all, net_at};
+ghost use Rattle.surf_netlist.specs.Making.{and_row, making_of, net_at, next_net, or_rows, with_and, with_or};
 
 use crate::signed::{Signed, and_gate, asked_net, complement, one_gate, or_gate};
 use std::alloc::Global;
@@ -22,7 +22,8 @@ pub(crate) struct GateList {
 
 // The gate of an equation that is constant: without rows it is false, else it is the polarity.
 fn constant(equation: &Equation) -> Gate
-    ensures { result ≡ Gate.Constant (equation.now.polarity && not (nat_eq (length equation.now.rows) 0)) }
+    ensures { let some = not (nat_eq (length equation.now.rows) 0) in
+        result ≡ Gate.Constant (equation.now.polarity && some) }
 {
     Gate::Constant(equation.polarity() && !equation.rows().is_empty())
 }
@@ -39,9 +40,9 @@ impl GateList {
 
     // One gate more, and its net.
     fn push(&mut self, gate: Gate) -> Result<Signed, NoMemory>
-        requires { self.old.inputs + vec_len self.old.gates < 2 ^ 32 }
+        requires { next_net self.old < 2 ^ 32 }
         ensures gates { OnOk result (self.new.gates.items ≡ self.old.gates.items ++ gate ∷ []) }
-        ensures net { IfOk result (λ s. s ≡ plain (self.old.inputs + vec_len self.old.gates)) }
+        ensures net { IfOk result (λ s. s ≡ plain (next_net self.old)) }
         ensures same { self.new.inputs ≡ self.old.inputs }
     {
         let net = self.inputs + self.gates.len() as u32;
@@ -54,9 +55,9 @@ impl GateList {
 
     // The AND of what was made so far and one signed net.
     fn and(&mut self, so_far: Option<Signed>, next: Signed) -> Result<Signed, NoMemory>
-        requires { self.old.inputs + vec_len self.old.gates < 2 ^ 32 }
-        ensures is { IfOk result (λ s.
-            record { gates = self.new.gates.items; so_far = Some s } ≡ with_and self.old.inputs self.old.gates.items so_far next) }
+        requires { next_net self.old < 2 ^ 32 }
+        ensures is { IfOk result (λ s. making_of self.new (Some s)
+            ≡ with_and self.old.inputs self.old.gates.items so_far next) }
         ensures same { self.new.inputs ≡ self.old.inputs }
     {
         match so_far {
@@ -67,9 +68,9 @@ impl GateList {
 
     // The OR of the rows so far and one more.
     fn or(&mut self, so_far: Option<Signed>, next: Signed) -> Result<Signed, NoMemory>
-        requires { self.old.inputs + vec_len self.old.gates < 2 ^ 32 }
-        ensures is { IfOk result (λ s.
-            record { gates = self.new.gates.items; so_far = Some s } ≡ with_or self.old.inputs self.old.gates.items so_far next) }
+        requires { next_net self.old < 2 ^ 32 }
+        ensures is { IfOk result (λ s. making_of self.new (Some s)
+            ≡ with_or self.old.inputs self.old.gates.items so_far next) }
         ensures same { self.new.inputs ≡ self.old.inputs }
     {
         match so_far {
@@ -87,11 +88,10 @@ impl GateList {
     ) -> Result<Option<Signed>, NoMemory>
         requires same { length literals.now ≡ length inputs.now }
         requires within { All (λ n. n < length nets.now) inputs.now }
-        requires room { self.old.inputs
-            + length (and_all self.old.inputs self.old.gates.items None (signed_row (net_at nets.now) inputs.now literals.now)).gates
-            < 2 ^ 32 }
-        ensures is { IfOk result (λ o. record { gates = self.new.gates.items; so_far = o }
-            ≡ and_all self.old.inputs self.old.gates.items None (signed_row (net_at nets.now) inputs.now literals.now)) }
+        requires room { let row = signed_row (net_at nets.now) inputs.now literals.now in
+            self.old.inputs + length (and_row self.old row).gates < 2 ^ 32 }
+        ensures is { let row = signed_row (net_at nets.now) inputs.now literals.now in
+            IfOk result (λ o. making_of self.new o ≡ and_row self.old row) }
         ensures inputs { self.new.inputs ≡ self.old.inputs }
     {
         let mut so_far = None;
@@ -115,11 +115,10 @@ impl GateList {
     ) -> Result<Option<Signed>, NoMemory>
         requires same { All (λ row. length row ≡ length inputs.now) rows.now }
         requires within { All (λ n. n < length nets.now) inputs.now }
-        requires room { self.old.inputs
-            + length (or_all self.old.inputs self.old.gates.items None (map (signed_row (net_at nets.now) inputs.now) rows.now)).gates
-            < 2 ^ 32 }
-        ensures is { IfOk result (λ o. record { gates = self.new.gates.items; so_far = o }
-            ≡ or_all self.old.inputs self.old.gates.items None (map (signed_row (net_at nets.now) inputs.now) rows.now)) }
+        requires room { let signed = map (signed_row (net_at nets.now) inputs.now) rows.now in
+            self.old.inputs + length (or_rows self.old signed).gates < 2 ^ 32 }
+        ensures is { let signed = map (signed_row (net_at nets.now) inputs.now) rows.now in
+            IfOk result (λ o. making_of self.new o ≡ or_rows self.old signed) }
         ensures inputs { self.new.inputs ≡ self.old.inputs }
     {
         let mut so_far = None;
@@ -132,12 +131,13 @@ impl GateList {
         Ok(so_far)
     }
 
-    // Gives the gates from a place on the values by the polarity: where there is none, by one gate of one input.
+    // Gives the gates from a place on the values by the polarity: where there is none, by one gate
+    // of one input.
     fn finish(&mut self, start: usize, input: Signed, polarity: bool) -> Result<(), NoMemory>
         requires begun { start ≤ vec_len self.old.gates }
-        requires room { self.old.inputs + vec_len self.old.gates < 2 ^ 32 }
-        ensures gates { OnOk result (self.new.gates.items
-            ≡ take start self.old.gates.items ++ finished polarity (drop start self.old.gates.items) input) }
+        requires room { next_net self.old < 2 ^ 32 }
+        ensures gates { OnOk result (self.new.gates.items ≡ take start self.old.gates.items
+            ++ finished polarity (drop start self.old.gates.items) input) }
         ensures inputs { self.new.inputs ≡ self.old.inputs }
     {
         let count = self.gates.len();
@@ -152,9 +152,9 @@ impl GateList {
     // The gates of an equation.
     fn add(&mut self, nets: &[u32], equation: &Equation) -> Result<(), NoMemory>
         requires range { EquationInRange (length nets.now) equation.now }
-        requires room { self.old.inputs + vec_len self.old.gates + equation_cost equation.now < 2 ^ 32 }
+        requires room { next_net self.old + equation_cost equation.now < 2 ^ 32 }
         ensures gates { OnOk result (self.new.gates.items ≡ self.old.gates.items
-            ++ gates_of_equation (self.old.inputs + vec_len self.old.gates) (net_at nets.now) equation.now) }
+            ++ gates_of_equation (next_net self.old) (net_at nets.now) equation.now) }
         ensures inputs { self.new.inputs ≡ self.old.inputs }
     {
         let start = self.gates.len();
@@ -176,11 +176,11 @@ impl GateList {
         equations: &[Equation],
     ) -> Result<(), NoMemory>
         requires range { All (EquationInRange (length nets.old)) equations.now }
-        requires room { self.old.inputs + vec_len self.old.gates + sum (map equation_cost equations.now) < 2 ^ 32 }
+        requires room { next_net self.old + sum (map equation_cost equations.now) < 2 ^ 32 }
         ensures gates { OnOk result (self.new.gates.items ≡ self.old.gates.items
-            ++ gates_from (self.old.inputs + vec_len self.old.gates) (net_at nets.old) equations.now) }
+            ++ gates_from (next_net self.old) (net_at nets.old) equations.now) }
         ensures nets { OnOk result (net_at nets.new
-            ≡ nets_from (self.old.inputs + vec_len self.old.gates) (net_at nets.old) equations.now) }
+            ≡ nets_from (next_net self.old) (net_at nets.old) equations.now) }
         ensures inputs { self.new.inputs ≡ self.old.inputs }
         ensures length { length nets.new ≡ length nets.old }
     {

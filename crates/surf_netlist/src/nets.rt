@@ -39,13 +39,15 @@ fn nets_of(alloc: Global, names: &[u32], nets: &[u32]) -> Result<Vec<u32>, NoMem
     Ok(found)
 }
 
-// The gates of a circuit, with room made for all at once, and the nets of its names. No name has one at first.
+// The gates of a circuit, with room made for all at once, and the nets of its names. No name has
+// one at first.
 fn list_gates(alloc: Global, circuit: &Circuit, nets: &mut [u32]) -> Result<GateList, NoMemory>
     requires cost { cost_of circuit.now.parts ≤ 1000 }
     requires none { nets.old ≡ replicate (length circuit.now.names) 0 }
     ensures inputs { IfOk result (λ g. g.inputs ≡ (gates_of circuit.now.parts).inputs) }
     ensures gates { IfOk result (λ g. g.gates.items ≡ (gates_of circuit.now.parts).gates) }
-    ensures nets { OnOk result (map (net_at nets.new) circuit.now.parts.outputs ≡ (gates_of circuit.now.parts).outputs) }
+    ensures nets { OnOk result (map (net_at nets.new) circuit.now.parts.outputs
+        ≡ (gates_of circuit.now.parts).outputs) }
     ensures length { length nets.new ≡ length nets.old }
     ensures circuit { IsCircuit circuit.now }
 {

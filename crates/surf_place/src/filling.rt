@@ -54,7 +54,8 @@ impl Filling {
     // The rows of so many inputs.
     fn add_inputs(&mut self, count: u32) -> Result<(), NoMemory>
         requires { self.old.row + count < 2 ^ 32 }
-        ensures { OnOk result (filled_of self.new ≡ filled (filled_of self.old) (input_rows count 0 [])) }
+        ensures { OnOk result (filled_of self.new
+            ≡ filled (filled_of self.old) (input_rows count 0 [])) }
     {
         for _net in 0..count {
             self.begin()?;
@@ -66,7 +67,8 @@ impl Filling {
     fn add_gate(&mut self, gate: Gate) -> Result<(), NoMemory>
         requires uses { UsesBelow (vec_len self.old.last) gate }
         requires room { self.old.row + 3 < 2 ^ 32 }
-        ensures { OnOk result ((net : ℕ) → filled_of self.new ≡ filled (filled_of self.old) (gate_rows net (gate ∷ []) [])) }
+        ensures { OnOk result ((net : ℕ) → filled_of self.new
+            ≡ filled (filled_of self.old) (gate_rows net (gate ∷ []) [])) }
     {
         match gate {
             Gate::Constant(_) => {}
@@ -92,7 +94,8 @@ impl Filling {
 
     // The rows of gates.
     fn add_gates(&mut self, gates: &[Gate]) -> Result<(), NoMemory>
-        requires lower { (j : ℕ) (g : Gate) → slice_get gates.now j ≡ Some g → UsesBelow (vec_len self.old.last + j) g }
+        requires lower { (j : ℕ) (g : Gate) → slice_get gates.now j ≡ Some g
+            → UsesBelow (vec_len self.old.last + j) g }
         requires room { self.old.row + 3 * length gates.now < 2 ^ 32 }
         ensures { OnOk result (filled_of self.new
             ≡ filled (filled_of self.old) (gate_rows (vec_len self.old.last) gates.now [])) }

@@ -56,8 +56,10 @@ fn spans(alloc: Global, source: &[u32], last: &[u32]) -> Result<Vec<Span>, NoMem
 // The lanes of the nets of a netlist whose rows are known.
 fn lanes_of(alloc: Global, netlist: &Netlist, rows: &Filling) -> Result<Lanes, NoMemory>
     requires drawable { IsDrawable netlist.now }
-    requires sources { rows.now.source.items ≡ map (source_row netlist.now) (range_with_len 0 (nets_of netlist.now)) }
-    requires lasts { rows.now.last.items ≡ map (last_row netlist.now) (range_with_len 0 (nets_of netlist.now)) }
+    requires sources { rows.now.source.items
+        ≡ map (source_row netlist.now) (range_with_len 0 (nets_of netlist.now)) }
+    requires lasts { rows.now.last.items
+        ≡ map (last_row netlist.now) (range_with_len 0 (nets_of netlist.now)) }
     ensures { IfOk result (IsPacked (net_spans netlist.now)) }
 {
     let spans = spans(alloc, &rows.source, &rows.last)?;
