@@ -8,10 +8,12 @@ run:
 test:
 	@bash .ci/run
 
-# runs each manifest for ten events, evaluates the circuit and takes the automata a few steps on
+# runs each manifest for ten events, evaluates circuits, draws one as a surface, and takes the automata a few steps on
 examples: build
 	@for file in examples/*.txt; do echo "$$file"; crates/surf/out/surf run 1 10 < "$$file" || exit 1; done
 	@echo examples/full_adder.blif; crates/surf/out/surf eval 110 < examples/full_adder.blif
+	@echo examples/c17.blif; crates/surf/out/surf eval 10101 < examples/c17.blif
+	@echo examples/inverter.blif; crates/surf/out/surf circuit < examples/inverter.blif
 	@echo examples/growth.rle; crates/surf/out/surf step 2 < examples/growth.rle
 	@echo examples/signal.table; crates/surf/out/surf step 3 < examples/signal.table
 
