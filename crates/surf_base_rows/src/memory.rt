@@ -22,9 +22,9 @@ fn memory_is_written_in_pieces(rt: HostRuntime) -> Result<(), Fail> {
     let failing = [3].to_vec(rt.alloc())?;
     let mut sink = MemorySink::new(rt.alloc(), 100, 4, failing)?;
     assert!(rt; write_all(&mut sink, b"a long text").is_err());
-    assert!(rt; sink.bytes() == b"a long t");
+    assert!(rt; sink.bytes() == b"a long t".as_slice());
     let mut small = MemorySink::new(rt.alloc(), 2, 4, Vec::new(rt.alloc()))?;
-    assert!(rt; write_all(&mut small, b"abc").is_err() && small.bytes() == b"ab");
+    assert!(rt; write_all(&mut small, b"abc").is_err() && small.bytes() == b"ab".as_slice());
     let text = Text::new(sink.bytes().to_vec(rt.alloc())?);
     assert!(rt; text.bytes() == sink.bytes());
     Ok(())
@@ -41,7 +41,7 @@ fn pieces_are_written(rt: HostRuntime) -> Result<(), Fail> {
     ];
     assert!(rt; write_pieces(&mut sink, &pieces).is_ok());
     let text = b"at 18446744073709551615/340282366920938463463374607431768211455";
-    assert!(rt; sink.bytes() == text);
+    assert!(rt; sink.bytes() == text.as_slice());
     Ok(())
 }
 
