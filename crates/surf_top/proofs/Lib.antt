@@ -9,3 +9,5 @@ pub mod Valued
 pub mod Stepped
 pub mod Settings
 pub mod Surfaces
+pub mod LegendsRead
+pub mod Carried

@@ -1,5 +1,5 @@
 -- The surface of a circuit, as text.
-use Rattle.std.specs.Prelude.{ℕ, ◌≡◌, List, Some, Result, Ok}
+use Rattle.std.specs.Prelude.{ℕ, ◌≡◌, List, Some, Ok}
 use Rattle.surf_logic.specs.Equations.{PartsOf, Numbered}
 use Rattle.surf_blif.specs.Blifs.{IsRead}
 use Rattle.surf_manifest.specs.Grammar.{ManifestText, manifest_of}

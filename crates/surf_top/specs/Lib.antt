@@ -10,3 +10,4 @@ pub mod Answers
 pub mod Notes
 pub mod Prints
 pub mod Commands
+pub mod CircuitLaws

@@ -1,5 +1,5 @@
 -- Manifests whose inputs are set to bits.
-use Rattle.std.specs.Prelude.{ℕ, ◌≡◌, Bool, List, Option, Some, None, Result, Ok, Err, IsOk}
+use Rattle.std.specs.Prelude.{ℕ, ◌≡◌, Bool, List, Option, Some, None, Ok}
 use Rattle.surf_manifest.specs.Grammar.{ManifestText, manifest_of}
 use Rattle.surf_manifest_print.specs.Legends.{LegendText}
 use Rattle.surf_manifest_print.specs.LegendTexts.{legend_of}

@@ -12,6 +12,7 @@ mod compiling;
 mod evaluating;
 mod events;
 mod job;
+mod laws;
 mod print;
 mod reasons;
 mod replaying;
@@ -23,6 +24,7 @@ mod top;
 mod words;
 
 pub use job::Job;
+pub use laws::surfaces_are_set;
 pub use reasons::note;
 pub use status::{Refusal, Status};
 pub use top::surf;
