@@ -13,3 +13,4 @@ mod Texts
 mod Observed
 mod Printed
 mod Starts
+mod Compiled

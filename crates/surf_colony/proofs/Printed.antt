@@ -30,7 +30,7 @@ use Rattle.surf_colony.proofs.Runs.{none_yet, starts, came, synchronous}
 use Rattle.surf_colony.proofs.Texts.{shown_renamed, generation_renamed, Apart, enabled_back}
 use Rattle.surf_colony.proofs.Observed.{observes, frame_observed, observed_renamed}
 
-whole : (o : Option ℕ) (n : ℕ) → IsLast o n → WholeBy o n
+pub whole : (o : Option ℕ) (n : ℕ) → IsLast o n → WholeBy o n
 whole None n h = tt
 whole (Some l) n h = (h.0, h.1)
 
@@ -72,7 +72,7 @@ module _ (U : Universe) (last : Option ℕ) (is : IsUniverse U) (within : Starts
         acc = omega arith;
       }
 
-  mark_small : (m : Mark) → IsMark (protocol_of (plan_of U last)) m → IsSmallMark m
+  pub mark_small : (m : Mark) → IsMark (protocol_of (plan_of U last)) m → IsSmallMark m
   mark_small (Frame k) h = let b = few_degree U.rule.degree is.is_local.known in omega arith
   mark_small (Cell c) h = code_small c h
 

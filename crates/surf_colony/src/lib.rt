@@ -5,7 +5,9 @@
 //! generation. It stands on the names and rules of `surf_sync` and on `Manifest::assemble`.
 #![tactic(auto)]
 
+mod compile;
 mod laws;
 mod start;
 
+pub use compile::{compile_automaton, compile_last};
 pub use laws::keeps_in_step;

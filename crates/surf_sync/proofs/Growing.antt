@@ -33,7 +33,7 @@ few_if : (b : Bool) (old : List (List ℕ)) (t : List ℕ) → length (if b then
 few_if true old t = omega arith
 few_if false old t = omega (arith, length-append old (t ∷ []))
 
-few_all : (old ts : List (List ℕ)) → length (with_texts old ts) ≤ length old + length ts
+pub few_all : (old ts : List (List ℕ)) → length (with_texts old ts) ≤ length old + length ts
 few_all old [] = omega arith
 few_all old (t ∷ ts) = omega (arith, few_all (with_text old t) ts, few_if (list_any (bytes_eq t) old) old t)
 
