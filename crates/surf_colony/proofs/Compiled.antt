@@ -85,9 +85,10 @@ rule_said texts r R e =
     let a : slice_get texts r.left ≡ Some (spell R.left) = ap (λ x. x.left) e in
     let b : slice_get texts r.left_after ≡ Some (spell R.left_after) = ap (λ x. x.left_after) e in
     let p = some_said texts r.right R.right (ap (λ x. x.right) e) in
-    let q = some_said texts r.right_after R.right_after (ap (λ x. x.right_after) e) in
-    (record { left = slice_get_within texts r.left (spell R.left) a; right = p.0; left_after = slice_get_within texts r.left_after (spell R.left_after) b; right_after = q.0 },
-    rw (rate, text_at texts r.left (spell R.left) a, p.1, text_at texts r.left_after (spell R.left_after) b, q.1) refl)
+    let q = some_said texts r.right_after R.right_after (ap (λ x. x.right_after) e) in (
+      record { left = slice_get_within texts r.left (spell R.left) a; right = p.0; left_after = slice_get_within texts r.left_after (spell R.left_after) b; right_after = q.0 },
+      rw (rate, text_at texts r.left (spell R.left) a, p.1, text_at texts r.left_after (spell R.left_after) b, q.1) refl,
+    )
 
 pub record Sound (texts : List (List ℕ)) (rules : List Rule) (marked : List (systems.Rule Mark)) : Type 0 where
   pub numbers : RulesBelow (length texts) rules
@@ -182,10 +183,10 @@ compiles U last is within ok turns small names rules named say =
     let some = is.is_local.some_phase in
     let w = whole last U.rule.phases ok in
     let all : list_all is_name (with_texts [] ts) ≡ true = texts_all [] ts refl (λ t h.
-        let m = map_has spell (marks_of N) t h in
-        subst (λ u. is_name u ≡ true) (sym m.2) (mark_name m.0 (mark_small U last is within ok m.0 (any_edge N (protocol_of (plan_of U last)) refl refl m.0 (marks_are N some m.0 m.1))))) in
+    let m = map_has spell (marks_of N) t h in
+    subst (λ u. is_name u ≡ true) (sym m.2) (mark_name m.0 (mark_small U last is within ok m.0 (any_edge N (protocol_of (plan_of U last)) refl refl m.0 (marks_are N some m.0 m.1))))) in
     let long : length ts ≡ suc U.rule.degree + length (all_texts U.rule (fields_by last U.rule.phases)) =
-        ap length (sym (all_spelled N)) ∙ length-append (frame_texts (suc U.rule.degree)) (all_texts U.rule (fields_by last U.rule.phases)) ∙ ap (λ n. n + length (all_texts U.rule (fields_by last U.rule.phases))) (frame_length (suc U.rule.degree)) in
+    ap length (sym (all_spelled N)) ∙ length-append (frame_texts (suc U.rule.degree)) (all_texts U.rule (fields_by last U.rule.phases)) ∙ ap (λ n. n + length (all_texts U.rule (fields_by last U.rule.phases))) (frame_length (suc U.rule.degree)) in
     let few = texts_few U.rule last (few_degree U.rule.degree is.is_local.known) some w turns in
     let most = few_all [] ts in
     let room : length (with_texts [] ts) ≤ 2147483648 = omega (arith, long, few, most, small) in
