@@ -8,7 +8,7 @@ use Rattle.surf_pick.specs.Draws.{seeded, words_of}
 use Rattle.surf_sim.specs.Simulations.{Simulation}
 use Rattle.surf_manifest.specs.Grammar.{ManifestText, manifest_of}
 use Rattle.surf_manifest.specs.declared.error.ManifestError.{ManifestError}
-use Rattle.surf_top.specs.Jobs.{Job, Run, Format, Eval, Circuit, Set, Step, Replay}
+use Rattle.surf_top.specs.Jobs.{Job, Run, Format, Eval, Circuit, Set, Automaton, Step, Replay}
 use Rattle.surf_world.specs.declared.event.Event.{Event}
 use Rattle.surf_trace.proofs.Runs.{run_not_bad}
 use Rattle.surf_blif.specs.declared.error.BlifError.{BlifError}
@@ -20,12 +20,13 @@ use Rattle.surf_top.specs.declared.status.Refusal.{Refusal}
 use Rattle.surf_top.specs.declared.status.Refusal.TheVariants.{Manifest, Legend, Trace, Blif, Bits, NotInput, Source}
 use Rattle.surf_top.specs.declared.status.Status.{Status}
 use Rattle.surf_top.specs.declared.status.Status.TheVariants.{Done, Refused, Usage, NotEnabled, ReadFault, WriteFault, NoMemory, TooLong}
-use Rattle.surf_top.specs.Answers.{Ends, HasCauses, IsComplete, IsQuiet, PrintsCircuit, PrintsRun, PrintsWhat, WroteWhole, WroteFront, limit}
+use Rattle.surf_top.specs.Answers.{Ends, HasCauses, IsComplete, IsQuiet, PrintsCircuit, PrintsColony, PrintsRun, PrintsWhat, WroteWhole, WroteFront, limit}
 use Rattle.surf_top.specs.Commands.{IsReady, EndsJob, status_of}
 use Rattle.surf_top.specs.Outputs.{IsText, HasText, IsRefused, FindsBad, IsBadAt, IsValid, IsBlifRefused, IsCircuitRefused, IsEvalRefused, IsSetRefused, printed_run, replay_input, Shows, ShowsOf}
 use Rattle.surf_circuit.specs.declared.inputs.SetError.{SetError}
 use Rattle.surf_circuit.specs.declared.inputs.SetError.TheVariants as sets
 use Rattle.surf_circuit.specs.Inputs.{set_fault}
+use Rattle.surf_top.specs.Automata.{HoldsColony}
 use Rattle.surf_top.specs.Compiled.{HoldsCircuit}
 use Rattle.surf_top.specs.Sets.{SetsWith}
 use Rattle.surf_top.specs.Prints.{placed_text}
@@ -141,6 +142,7 @@ refused_none Format input r is ok = false≢true (sym (ap is_ok is) ∙ ok)
 refused_none (Eval bits) input r is ok = no_values bits input r is ok
 refused_none Circuit input r is ok = no_surface input r is ok
 refused_none (Set bits) input r is ok = not_set bits input r is ok
+refused_none (Automaton margin last) input r is ok = false≢true (sym (ap is_ok is) ∙ ok)
 refused_none (Step times) input r is ok = false≢true (sym (ap is_ok is) ∙ ok)
 refused_none Replay input r is ok = subst (λ (p : Result (ManifestText × List Event) Refusal). IsValid p) is ok
 
@@ -154,6 +156,7 @@ bad_none Format input k bad ok = bad
 bad_none (Eval bits) input k bad ok = bad
 bad_none Circuit input k bad ok = bad
 bad_none (Set bits) input k bad ok = bad
+bad_none (Automaton margin last) input k bad ok = bad
 bad_none (Step times) input k bad ok = bad
 bad_none Replay input k bad ok = valid_not_bad (replay_input input) k bad ok
 
@@ -201,3 +204,9 @@ prints_circuit None e s causes = tt
 prints_circuit (Some Circuit) e s causes =
     done_shows Circuit e s (λ input text. HoldsCircuit (parts_of input) text) (λ input text shows. shows) causes
 prints_circuit (Some job) e s causes = tt
+
+pub prints_colony : (o : Option Job) (e : Ends) (s : Status) → HasCauses o e s → PrintsColony o e s
+prints_colony None e s causes = tt
+prints_colony (Some (Automaton margin last)) e s causes =
+    done_shows (Automaton margin last) e s (λ input text. HoldsColony margin last input text) (λ input text shows. shows) causes
+prints_colony (Some job) e s causes = tt

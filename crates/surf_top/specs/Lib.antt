@@ -3,6 +3,7 @@ pub mod Jobs
 pub mod Runs
 pub mod Values
 pub mod Generations
+pub mod Automata
 pub mod Compiled
 pub mod Sets
 pub mod Outputs

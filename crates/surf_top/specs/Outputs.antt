@@ -6,7 +6,7 @@ use Rattle.surf_manifest.specs.Line.{line_of}
 use Rattle.surf_manifest.specs.Grammar.{ManifestText, manifest_of, read_from}
 use Rattle.surf_manifest.specs.declared.error.ManifestError.{ManifestError}
 use Rattle.surf_manifest_print.specs.Prints.{print_of}
-use Rattle.surf_top.specs.Jobs.{Job, Run, Format, Eval, Circuit, Set, Step, Replay}
+use Rattle.surf_top.specs.Jobs.{Job, Run, Format, Eval, Circuit, Set, Automaton, Step, Replay}
 use Rattle.surf_top.specs.declared.status.Refusal.{Refusal}
 use Rattle.surf_top.specs.declared.status.Refusal.TheVariants.{Manifest, Legend, Trace, Blif, Bits, NotInput, Source}
 use Rattle.surf_world.specs.declared.event.Event.{Event}
@@ -25,6 +25,7 @@ use Rattle.surf_top.specs.Values.{HasValues, IsAccepted, TellsValues, MissesBits
 use Rattle.surf_top.specs.Compiled.{HoldsCircuit, IsCompiled}
 use Rattle.surf_top.specs.Sets.{IsSet, SetsWith}
 use Rattle.surf_top.specs.Generations.{source_of, printed_generation}
+use Rattle.surf_top.specs.Automata.{HoldsColony, printed_colony}
 
 abbrev pub printed_run : ℕ → ℕ → Result ManifestText ManifestError → Result (List ℕ) Refusal
 printed_run seed count (Ok m) = Ok (run_text m.system seed count)
@@ -72,6 +73,7 @@ IsText Format input text = printed_manifest (manifest_of input) ≡ Ok text
 IsText (Eval bits) input text = TellsValues bits input text
 IsText Circuit input text = IsCompiled input text
 IsText (Set bits) input text = IsSet bits input text
+IsText (Automaton margin last) input text = printed_colony last (source_of margin input) ≡ Ok text
 IsText (Step times) input text = printed_generation times (source_of 0 input) ≡ Ok text
 IsText Replay input text = IsValidText (replay_input input) text
 
@@ -82,6 +84,7 @@ HasText Format input = IsOk (printed_manifest (manifest_of input))
 HasText (Eval bits) input = HasValues bits input
 HasText Circuit input = IsAccepted input
 HasText (Set bits) input = SetsWith bits input None
+HasText (Automaton margin last) input = IsOk (printed_colony last (source_of margin input))
 HasText (Step times) input = IsOk (printed_generation times (source_of 0 input))
 HasText Replay input = IsValid (replay_input input)
 
@@ -126,6 +129,7 @@ IsRefused Format input r = printed_manifest (manifest_of input) ≡ Err r
 IsRefused (Eval bits) input r = IsEvalRefused bits input r
 IsRefused Circuit input r = IsCircuitRefused input r
 IsRefused (Set bits) input r = IsSetRefused bits input r
+IsRefused (Automaton margin last) input r = printed_colony last (source_of margin input) ≡ Err r
 IsRefused (Step times) input r = printed_generation times (source_of 0 input) ≡ Err r
 IsRefused Replay input r = replay_input input ≡ Err r
 
@@ -136,6 +140,7 @@ FindsBad Format input k = ⊥
 FindsBad (Eval bits) input k = ⊥
 FindsBad Circuit input k = ⊥
 FindsBad (Set bits) input k = ⊥
+FindsBad (Automaton margin last) input k = ⊥
 FindsBad (Step times) input k = ⊥
 FindsBad Replay input k = IsBadAt (replay_input input) k
 
@@ -144,12 +149,13 @@ abbrev pub ShowsOf : ℕ → Result ManifestText ManifestError → List ℕ → 
 ShowsOf count (Ok m) text = ShowsRun m.system count text
 ShowsOf count (Err e) text = ⊥
 
--- what a job's text shows: a run of the manifest that the input spells, or a surface that computes its circuit
+-- what a job's text shows: a run of the manifest that the input spells, a surface that computes its circuit, or one on which the cells of its automaton keep in step
 abbrev pub Shows : Job → List ℕ → List ℕ → Type 0
 Shows (Run seed count) input text = ShowsOf count (manifest_of input) text
 Shows Format input text = Unit {0}
 Shows (Eval bits) input text = Unit {0}
 Shows Circuit input text = HoldsCircuit (parts_of input) text
 Shows (Set bits) input text = Unit {0}
+Shows (Automaton margin last) input text = HoldsColony margin last input text
 Shows (Step times) input text = Unit {0}
 Shows Replay input text = Unit {0}

@@ -8,6 +8,7 @@
 mod bits;
 mod canonical;
 mod cells;
+mod colonies;
 mod compiling;
 mod evaluating;
 mod events;

@@ -84,7 +84,8 @@ run_words seed count = option_and_then (λ s. option_map (λ n. Run s n) (decima
 
 abbrev pub automaton_words : List ℕ → List ℕ → Option Spoken
 automaton_words margin last =
-    option_and_then (λ m. option_map (λ n. Automaton m (Some n)) (number_of 1 1000000 last)) (number_of 0 1000 margin)
+    option_and_then (λ m. option_map (λ n. Automaton m (Some n)) (number_of 1 1000000 last))
+    (number_of 0 1000 margin)
 
 abbrev pub three_words : List ℕ → List ℕ → List ℕ → Option Spoken
 three_words w a b =
