@@ -28,16 +28,22 @@ pub record IsSheet (s : Sheet) (cells : List ℕ) : Type 0 where
 -- the cells, and besides those that these signs make live
 abbrev pub over : Sheet → List ℕ → List Placed → List ℕ
 over s cells ps =
-    map (λ p. if list_any (covers s.corner p) ps then 1 else slice_index cells (place (sheet_grid s) p)) (sites (sheet_grid s))
+    map
+    (λ p. if list_any (covers s.corner p) ps then 1
+    else slice_index cells (place (sheet_grid s) p))
+    (sites (sheet_grid s))
 
 -- what the signs from here on give
 abbrev pub rest_of : Sheet → Pen → List ℕ → List Mark → Result (List ℕ) SourceError
 rest_of s pen cells ms =
     unless (first_fault s.width s.height (placed pen.row pen.column (before_end ms)))
-    (if has_end ms then Ok (over s cells (placed pen.row pen.column (before_end ms))) else Err Unclosed)
+    (if has_end ms then Ok (over s cells (placed pen.row pen.column (before_end ms)))
+    else Err Unclosed)
 
 -- some signs are drawn: the pattern goes on at a place, it ended, or a sign was a fault
-abbrev pub Draws : Sheet → Pen → List ℕ → List Mark → List ℕ → Result (Option Pen) SourceError → Type 0
-Draws s pen cells ms new (Ok (Some next)) = (more : List Mark) → rest_of s pen cells (ms ++ more) ≡ rest_of s next new more
+abbrev pub Draws : Sheet → Pen → List ℕ → List Mark → List ℕ →
+    Result (Option Pen) SourceError → Type 0
+Draws s pen cells ms new (Ok (Some next)) =
+    (more : List Mark) → rest_of s pen cells (ms ++ more) ≡ rest_of s next new more
 Draws s pen cells ms new (Ok None) = (more : List Mark) → rest_of s pen cells (ms ++ more) ≡ Ok new
 Draws s pen cells ms new (Err f) = (more : List Mark) → rest_of s pen cells (ms ++ more) ≡ Err f

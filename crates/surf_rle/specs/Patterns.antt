@@ -71,7 +71,8 @@ pub record Placed : Type 0 where
 abbrev pub placed : ℕ → ℕ → List Mark → List Placed
 placed row column [] = []
 placed row column (m ∷ ms) =
-    record { row = row; column = column; mark = m } ∷ placed (row_after row m.sign) (column_after column m.sign) ms
+    record { row = row; column = column; mark = m }
+    ∷ placed (row_after row m.sign) (column_after column m.sign) ms
 
 -- live cells stand inside the box of these sides
 abbrev pub sign_fault : ℕ → ℕ → Placed → Sign → Option SourceError
@@ -89,12 +90,14 @@ fault_or (Some f) rest = Some f
 
 abbrev pub first_fault : ℕ → ℕ → List Placed → Option SourceError
 first_fault width height [] = None
-first_fault width height (p ∷ ps) = fault_or (sign_fault width height p p.mark.sign) (first_fault width height ps)
+first_fault width height (p ∷ ps) =
+    fault_or (sign_fault width height p p.mark.sign) (first_fault width height ps)
 
--- live cells at a place cover this site of the grid, where the box has its corner
+-- live cells at a place of the box cover this site of the grid
 abbrev pub covered_by : ℕ → Site → Placed → Sign → Bool
 covered_by corner s p (Live n) =
-    (s.y == p.row + corner) && (nat_le (p.column + corner) s.x && nat_lt s.x (p.column + corner + n))
+    (s.y == p.row + corner)
+    && (nat_le (p.column + corner) s.x && nat_lt s.x (p.column + corner + n))
 covered_by corner s p Free = false
 covered_by corner s p (Dead n) = false
 covered_by corner s p (Down n) = false
@@ -116,4 +119,5 @@ unless (Some f) r = Err f
 abbrev pub cells_read : Sheet → List Mark → Result (List ℕ) SourceError
 cells_read s ms =
     unless (first_fault s.width s.height (placed 0 0 (before_end ms)))
-    (if has_end ms then Ok (map (cell_at s.corner (placed 0 0 (before_end ms))) (sites (sheet_grid s))) else Err Unclosed)
+    (if has_end ms then Ok (map (cell_at s.corner (placed 0 0 (before_end ms))) (sites (sheet_grid s)))
+    else Err Unclosed)

@@ -20,6 +20,7 @@ use Rattle.surf_rle.specs.declared.rule.Neighbours.TheVariants.{Four, Six, Eight
 use Rattle.surf_rle.specs.declared.sheet.Sheet.{Sheet}
 use Rattle.surf_rle.specs.declared.torus.Sides.{Sides}
 
+-- a box that is empty, or a grid of more than 1,000,000 sites
 abbrev pub box_fault : Sheet → Option SourceError
 box_fault s =
     if (s.width == 0) || (s.height == 0) then Some EmptyGrid
@@ -33,19 +34,25 @@ with_cells grid R (Err f) = Err f
 
 -- the box of line n and the lines that follow it
 abbrev pub box_read : ℕ → Sheet → LocalRule → List (List ℕ) → Result Universe SourceError
-box_read n s R lines = unless (box_fault s) (with_cells (sheet_grid s) R (cells_read s (marks_from (n + 1) lines)))
+box_read n s R lines =
+    unless (box_fault s) (with_cells (sheet_grid s) R (cells_read s (marks_from (n + 1) lines)))
 
 -- the same where the sides of a torus are looked at first
-abbrev pub grid_read : ℕ → ℕ → GridKind → LocalRule → Header → Option Sides → List (List ℕ) → Result Universe SourceError
+abbrev pub grid_read : ℕ → ℕ → GridKind → LocalRule → Header → Option Sides → List (List ℕ) →
+    Result Universe SourceError
 grid_read margin n kind R h torus lines =
     unless (torus_fault n kind h torus) (box_read n (sheet_of margin kind h torus) R lines)
 
-abbrev pub rule_read : ℕ → ℕ → Header → HeaderRule → Neighbours → List (List ℕ) → Result Universe SourceError
-rule_read margin n h r Four lines = grid_read margin n Square (count_rule (counts_on Square r.rule)) h r.torus lines
-rule_read margin n h r Six lines = grid_read margin n Hex (count_rule (counts_on Hex r.rule)) h r.torus lines
+abbrev pub rule_read : ℕ → ℕ → Header → HeaderRule → Neighbours → List (List ℕ) →
+    Result Universe SourceError
+rule_read margin n h r Four lines =
+    grid_read margin n Square (count_rule (counts_on Square r.rule)) h r.torus lines
+rule_read margin n h r Six lines =
+    grid_read margin n Hex (count_rule (counts_on Hex r.rule)) h r.torus lines
 rule_read margin n h r Eight lines = Err (Moore n)
 
-abbrev pub if_rule : ℕ → ℕ → Header → Option HeaderRule → List (List ℕ) → Result Universe SourceError
+abbrev pub if_rule : ℕ → ℕ → Header → Option HeaderRule → List (List ℕ) →
+    Result Universe SourceError
 if_rule margin n h None lines = Err (RuleForm n)
 if_rule margin n h (Some r) lines = rule_read margin n h r r.rule.neighbours lines
 

@@ -47,7 +47,8 @@ is_side colours box side = nat_lt 0 side && ((side % colours == 0) && nat_le box
 
 -- a grid of this kind has one colour more than directions
 abbrev pub holds_box : GridKind → Header → Sides → Bool
-holds_box kind h t = is_side (suc (degree kind)) h.width t.width && is_side (suc (degree kind)) h.height t.height
+holds_box kind h t =
+    is_side (suc (degree kind)) h.width t.width && is_side (suc (degree kind)) h.height t.height
 
 -- the sides of a torus by the header of line n
 abbrev pub torus_fault : ℕ → GridKind → Header → Option Sides → Option SourceError
