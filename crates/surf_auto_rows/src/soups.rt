@@ -43,7 +43,7 @@ fn spelled(alloc: Global, header: &[u8], cells: &[u32], width: u32) -> Result<Ve
             column = 0;
         }
         text.push(if *state == 1 { b'o' } else { b'b' })?;
-        column += 1;
+        column = column.saturating_add(1);
     }
     text.push(b'!')?;
     Ok(text)
