@@ -1,5 +1,5 @@
 -- The cells that are read, and the universe that they make.
-use Rattle.std.proofs.Common.{ℕ, zero, ◌≡◌, ◌+◌, ◌*◌, ◌<◌, ◌≤◌, Bool, true, false, if◌then◌else◌, List, [], ◌∷◌, length, map, replicate, slice_index, Option, Some, None, Ok, Err, refl, sym, ◌∙◌, ap, subst, arith, inl, inr, ◌||◌, ◌==◌, nat_lt, suc}
+use Rattle.std.proofs.Common.{ℕ, zero, ◌≡◌, ◌*◌, ◌<◌, ◌≤◌, Bool, true, false, if◌then◌else◌, List, [], ◌∷◌, length, map, replicate, slice_index, Option, Some, None, Ok, Err, sym, ◌∙◌, ap, subst, arith, inl, inr, ◌||◌, ◌==◌, nat_lt, suc}
 use Rattle.std.specs.List.{list_any}
 use Rattle.std.proofs.lemmas.Bool.{cases_Bool, eqb-false, ltb-false, or_parts}
 use Rattle.std.proofs.lemmas.List.{length-map}
