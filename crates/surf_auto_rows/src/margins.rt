@@ -6,7 +6,12 @@ use surf_lattice::GridKind;
 use surf_rle::read_rle;
 use surf_table::read_table;
 
-fn pattern(alloc: Global, text: &[u8], margin: u32) -> Result<Automaton<CountLocal>, SourceError> {
+/// The automaton of a short pattern.
+pub fn pattern(
+    alloc: Global,
+    text: &[u8],
+    margin: u32,
+) -> Result<Automaton<CountLocal>, SourceError> {
     if is_table(text) || text.len() > 1000 || margin > 1000 {
         return Err(SourceError::BadTable(0));
     }

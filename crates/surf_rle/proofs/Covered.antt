@@ -8,8 +8,8 @@ use Rattle.std.proofs.Math.Nat.{mul-le-mul_right, mod-lt, div-add-mod}
 use Rattle.surf_lattice.specs.declared.site.Site.{Site}
 use Rattle.surf_lattice.specs.Grids.{Grid, place, site_at, sites}
 use Rattle.surf_rle.specs.Patterns.{Placed, covers, cell_at, mark}
-use Rattle.surf_rle.specs.Rle.{area}
-use Rattle.surf_rle.specs.Drawings.{over, sheet_grid}
+use Rattle.surf_rle.specs.Sheets.{area, sheet_grid}
+use Rattle.surf_rle.specs.Drawings.{over}
 use Rattle.surf_rle.specs.declared.sheet.Sheet.{Sheet}
 use Rattle.surf_rle.specs.declared.item.Sign.TheVariants.{Live}
 
@@ -30,7 +30,7 @@ place_site g i = let e = div-add-mod i g.width in omega (arith, e)
 
 -- ---- with no further signs, and where nothing is drawn
 
-pub over_none : (s : Sheet) (cells : List ℕ) → length cells ≡ area s.margin s.width s.height → over s cells [] ≡ cells
+pub over_none : (s : Sheet) (cells : List ℕ) → length cells ≡ area s → over s cells [] ≡ cells
 over_none s cells whole =
     let g = sheet_grid s in
     map-map (λ p. slice_index cells (place g p)) (site_at g) (range_with_len 0 (g.width * g.height))
@@ -42,10 +42,10 @@ zero_at zero k = refl
 zero_at (suc n) zero = refl
 zero_at (suc n) (suc k) = zero_at n k
 
-pub over_zeros : (s : Sheet) (n : ℕ) (ps : List Placed) → over s (replicate n 0) ps ≡ map (cell_at s.margin ps) (sites (sheet_grid s))
+pub over_zeros : (s : Sheet) (n : ℕ) (ps : List Placed) → over s (replicate n 0) ps ≡ map (cell_at s.corner ps) (sites (sheet_grid s))
 over_zeros s n ps =
-    map_same (λ p. if list_any (covers s.margin p) ps then 1 else slice_index (replicate n 0) (place (sheet_grid s) p)) (cell_at s.margin ps)
-    (λ p. ap (λ v. if list_any (covers s.margin p) ps then 1 else v) (zero_at n (place (sheet_grid s) p))) (sites (sheet_grid s))
+    map_same (λ p. if list_any (covers s.corner p) ps then 1 else slice_index (replicate n 0) (place (sheet_grid s) p)) (cell_at s.corner ps)
+    (λ p. ap (λ v. if list_any (covers s.corner p) ps then 1 else v) (zero_at n (place (sheet_grid s) p))) (sites (sheet_grid s))
 
 -- ---- a run of live cells
 
@@ -79,22 +79,22 @@ kept_or true false v = refl
 kept_or false b v = refl
 
 -- cells that a run was drawn on are covered by it
-pub over_live : (s : Sheet) (old new : List ℕ) (row column n line from : ℕ) (ps : List Placed) → 1 ≤ s.width → column + n ≤ s.width →
-    from ≡ (row + s.margin) * (s.width + 2 * s.margin) + (column + s.margin) →
+pub over_live : (s : Sheet) (old new : List ℕ) (row column n line from : ℕ) (ps : List Placed) → 1 ≤ s.width → s.corner + s.width ≤ s.full_width → column + n ≤ s.width →
+    from ≡ (row + s.corner) * s.full_width + (column + s.corner) →
     ((k : ℕ) → slice_index new k ≡ (if nat_le from k && nat_lt k (from + n) then 1 else slice_index old k)) →
     over s new ps ≡ over s old (record { row = row; column = column; mark = mark line (Live n) } ∷ ps)
-over_live s old new row column n line from ps wide fits at filled =
+over_live s old new row column n line from ps wide across fits at filled =
     let g = sheet_grid s in
-    let w = s.width + 2 * s.margin in
-    let r = row + s.margin in
-    let c = column + s.margin in
+    let w = s.full_width in
+    let r = row + s.corner in
+    let c = column + s.corner in
     same_cells g
-    (λ p. if list_any (covers s.margin p) ps then 1 else slice_index new (place g p))
-    (λ p. if list_any (covers s.margin p) (record { row = row; column = column; mark = mark line (Live n) } ∷ ps) then 1 else slice_index old (place g p))
+    (λ p. if list_any (covers s.corner p) ps then 1 else slice_index new (place g p))
+    (λ p. if list_any (covers s.corner p) (record { row = row; column = column; mark = mark line (Live n) } ∷ ps) then 1 else slice_index old (place g p))
     (omega arith)
     (λ p in_row.
-    ap (λ v. if list_any (covers s.margin p) ps then 1 else v)
+    ap (λ v. if list_any (covers s.corner p) ps then 1 else v)
     (filled (place g p)
     ∙ ap (λ f. if nat_le f (place g p) && nat_lt (place g p) (f + n) then 1 else slice_index old (place g p)) at
     ∙ ap (λ b. if b then 1 else slice_index old (place g p)) (sym (run_places w r c n p.x p.y in_row (omega arith))))
-    ∙ kept_or ((p.y == r) && (nat_le c p.x && nat_lt p.x (c + n))) (list_any (covers s.margin p) ps) (slice_index old (place g p)))
+    ∙ kept_or ((p.y == r) && (nat_le c p.x && nat_lt p.x (c + n))) (list_any (covers s.corner p) ps) (slice_index old (place g p)))

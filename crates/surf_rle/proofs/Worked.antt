@@ -1,11 +1,11 @@
 -- What some texts spell, by computing.
-use Rattle.std.proofs.Common.{ℕ, ◌≡◌, List, [], ◌∷◌, refl, codes, Bool, true, false, Ok, Err, slice_set, replicate}
+use Rattle.std.proofs.Common.{ℕ, ◌≡◌, List, [], ◌∷◌, ◌++◌, refl, codes, Bool, true, false, Ok, Err, slice_set, replicate}
 use Rattle.surf_lattice.specs.declared.site.GridKind.{GridKind}
 use Rattle.surf_lattice.specs.declared.site.GridKind.TheVariants.{Square, Hex}
 use Rattle.surf_lattice.specs.Grids.{degree}
 use Rattle.surf_text.specs.Bytes.{ended}
 use Rattle.surf_auto.specs.Counts.{count_rule}
-use Rattle.surf_auto.specs.Sync.{plain, universe}
+use Rattle.surf_auto.specs.Sync.{box_of, plain, universe}
 use Rattle.surf_auto.specs.declared.error.SourceError.{SourceError}
 use Rattle.surf_auto.specs.declared.error.SourceError.TheVariants as faults
 use Rattle.surf_rle.specs.Rle.{rle_of}
@@ -16,6 +16,11 @@ no = replicate 7 false
 abbrev Spells : ℕ → List (List ℕ) → GridKind → ℕ → ℕ → List Bool → List Bool → List ℕ → Type 0
 Spells margin ls kind width height birth survival cells =
     rle_of margin (ended ls) ≡ Ok (universe (plain kind width height) (count_rule (record { degree = degree kind; birth = birth; survival = survival })) 0 cells)
+
+-- on a torus, whatever the margin
+abbrev Joins : ℕ → List (List ℕ) → GridKind → ℕ → ℕ → List Bool → List Bool → List ℕ → Type 0
+Joins margin ls kind width height birth survival cells =
+    rle_of margin (ended ls) ≡ Ok (universe (box_of kind true width height) (count_rule (record { degree = degree kind; birth = birth; survival = survival })) 0 cells)
 
 abbrev HasFault : List (List ℕ) → SourceError → Type 0
 HasFault ls f = rle_of 0 (ended ls) ≡ Err f
@@ -105,3 +110,49 @@ cut_rule = refl
 
 empty_rule : HasFault (codes "x = 1, y = 1, rule =" ∷ []) (faults.RuleForm 1)
 empty_rule = refl
+
+-- ---- tori
+
+torus : Joins 0 (codes "x = 5, y = 5, rule = B1/SV:T5,5" ∷ codes "o!" ∷ []) Square 5 5 (slice_set no 1 true) no (1 ∷ replicate 24 0)
+torus = refl
+
+-- a box at the upper left corner, for which the margin counts nothing
+smaller_box : Joins 1000 (codes "x=2,y = 1 , rule=B1/Sv:t10,5" ∷ codes "bo!" ∷ []) Square 10 5 (slice_set no 1 true) no (0 ∷ 1 ∷ replicate 48 0)
+smaller_box = refl
+
+six_on_a_torus : Joins 3 (codes "x = 7, y = 7, rule = B2/SH:T07,7" ∷ codes "$o!" ∷ []) Hex 7 7 (slice_set no 2 true) no (replicate 7 0 ++ 1 ∷ replicate 41 0)
+six_on_a_torus = refl
+
+five_by_six : HasFault (codes "x = 5, y = 5, rule = B1/SV:T5,6" ∷ codes "o!" ∷ []) (faults.TorusSize 1)
+five_by_six = refl
+
+no_width : HasFault (codes "x = 5, y = 5, rule = B1/SV:T0,5" ∷ codes "o!" ∷ []) (faults.TorusSize 1)
+no_width = refl
+
+too_narrow : HasFault (codes "x = 11, y = 5, rule = B1/SV:T10,5" ∷ codes "o!" ∷ []) (faults.TorusSize 1)
+too_narrow = refl
+
+five_of_seven : HasFault (codes "x = 1, y = 1, rule = B1/SH:T5,7" ∷ codes "o!" ∷ []) (faults.TorusSize 1)
+five_of_seven = refl
+
+another_letter : HasFault (codes "x = 5, y = 5, rule = B1/SV:P5,5" ∷ codes "o!" ∷ []) (faults.RuleForm 1)
+another_letter = refl
+
+blank_side : HasFault (codes "x = 5, y = 5, rule = B1/SV:T5, 5" ∷ codes "o!" ∷ []) (faults.RuleForm 1)
+blank_side = refl
+
+-- the rule and its neighbours before the torus, and the torus before the box
+wrong_rule_first : HasFault (codes "x = 5, y = 5, rule = B5/SV:T0,0" ∷ codes "o!" ∷ []) (faults.RuleForm 1)
+wrong_rule_first = refl
+
+eight_first : HasFault (codes "x = 5, y = 5, rule = B3/S23:T0,0" ∷ codes "o!" ∷ []) (faults.Moore 1)
+eight_first = refl
+
+torus_before_box : HasFault (codes "x = 0, y = 5, rule = B1/SV:T5,6" ∷ codes "o!" ∷ []) (faults.TorusSize 1)
+torus_before_box = refl
+
+empty_on_a_torus : HasFault (codes "x = 0, y = 5, rule = B1/SV:T5,5" ∷ codes "o!" ∷ []) faults.EmptyGrid
+empty_on_a_torus = refl
+
+large_torus : HasFault (codes "x = 1, y = 1, rule = B1/SV:T1005,1000" ∷ codes "o!" ∷ []) (faults.GridTooLarge 1005000)
+large_torus = refl

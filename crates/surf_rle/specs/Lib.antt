@@ -1,5 +1,7 @@
 pub mod Headers
 pub mod RuleTexts
+pub mod Tori
+pub mod Sheets
 pub mod Items
 pub mod Patterns
 pub mod Rle

@@ -2,14 +2,16 @@
 use Rattle.std.specs.Prelude.{ℕ, ◌+◌, Bool, true, false, ◌&&◌, ◌==◌, nat_lt, nat_le, List, [], ◌∷◌, ◌++◌, map, Option, Some, None, Result, Ok, Err, if◌then◌else◌}
 use Rattle.std.specs.List.{list_any}
 use Rattle.surf_lattice.specs.declared.site.Site.{Site}
-use Rattle.surf_lattice.specs.Grids.{Grid, sites}
+use Rattle.surf_lattice.specs.Grids.{sites}
 use Rattle.surf_text.specs.Bytes.{trimmed}
 use Rattle.surf_auto.specs.Lines.{is_comment}
 use Rattle.surf_auto.specs.declared.error.SourceError.{SourceError}
 use Rattle.surf_auto.specs.declared.error.SourceError.TheVariants.{BadItem, OutOfBox, Unclosed}
 use Rattle.surf_rle.specs.Items.{signs_of}
+use Rattle.surf_rle.specs.Sheets.{sheet_grid}
 use Rattle.surf_rle.specs.declared.item.Sign.{Sign}
 use Rattle.surf_rle.specs.declared.item.Sign.TheVariants.{Free, Dead, Live, Down, End, Bad}
+use Rattle.surf_rle.specs.declared.sheet.Sheet.{Sheet}
 
 -- a sign and the number of its line
 pub record Mark : Type 0 where
@@ -69,7 +71,8 @@ pub record Placed : Type 0 where
 abbrev pub placed : ℕ → ℕ → List Mark → List Placed
 placed row column [] = []
 placed row column (m ∷ ms) =
-    record { row = row; column = column; mark = m } ∷ placed (row_after row m.sign) (column_after column m.sign) ms
+    record { row = row; column = column; mark = m }
+    ∷ placed (row_after row m.sign) (column_after column m.sign) ms
 
 -- live cells stand inside the box of these sides
 abbrev pub sign_fault : ℕ → ℕ → Placed → Sign → Option SourceError
@@ -87,31 +90,34 @@ fault_or (Some f) rest = Some f
 
 abbrev pub first_fault : ℕ → ℕ → List Placed → Option SourceError
 first_fault width height [] = None
-first_fault width height (p ∷ ps) = fault_or (sign_fault width height p p.mark.sign) (first_fault width height ps)
+first_fault width height (p ∷ ps) =
+    fault_or (sign_fault width height p p.mark.sign) (first_fault width height ps)
 
--- live cells at a place cover this site of the universe, whose box stands inside the margin
+-- live cells at a place of the box cover this site of the grid
 abbrev pub covered_by : ℕ → Site → Placed → Sign → Bool
-covered_by margin s p (Live n) =
-    (s.y == p.row + margin) && (nat_le (p.column + margin) s.x && nat_lt s.x (p.column + margin + n))
-covered_by margin s p Free = false
-covered_by margin s p (Dead n) = false
-covered_by margin s p (Down n) = false
-covered_by margin s p End = false
-covered_by margin s p Bad = false
+covered_by corner s p (Live n) =
+    (s.y == p.row + corner)
+    && (nat_le (p.column + corner) s.x && nat_lt s.x (p.column + corner + n))
+covered_by corner s p Free = false
+covered_by corner s p (Dead n) = false
+covered_by corner s p (Down n) = false
+covered_by corner s p End = false
+covered_by corner s p Bad = false
 
 abbrev pub covers : ℕ → Site → Placed → Bool
-covers margin s p = covered_by margin s p p.mark.sign
+covers corner s p = covered_by corner s p p.mark.sign
 
 -- a site is live exactly where some live cells cover it
 abbrev pub cell_at : ℕ → List Placed → Site → ℕ
-cell_at margin ps s = if list_any (covers margin s) ps then 1 else 0
+cell_at corner ps s = if list_any (covers corner s) ps then 1 else 0
 
 abbrev pub unless : {X : Type 0} → Option SourceError → Result X SourceError → Result X SourceError
 unless None r = r
 unless (Some f) r = Err f
 
--- the cells by the signs before the end, or the first fault; the box has these sides, and the grid the margin besides
-abbrev pub cells_read : ℕ → Grid → ℕ → ℕ → List Mark → Result (List ℕ) SourceError
-cells_read margin grid width height ms =
-    unless (first_fault width height (placed 0 0 (before_end ms)))
-    (if has_end ms then Ok (map (cell_at margin (placed 0 0 (before_end ms))) (sites grid)) else Err Unclosed)
+-- the cells of the grid by the signs before the end, or the first fault
+abbrev pub cells_read : Sheet → List Mark → Result (List ℕ) SourceError
+cells_read s ms =
+    unless (first_fault s.width s.height (placed 0 0 (before_end ms)))
+    (if has_end ms then Ok (map (cell_at s.corner (placed 0 0 (before_end ms))) (sites (sheet_grid s)))
+    else Err Unclosed)

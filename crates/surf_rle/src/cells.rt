@@ -1,6 +1,6 @@
 // The cells of a pattern.
 ghost use Rattle.std.specs.Prelude.{◌≡◌, ◌+◌, ◌≤◌, Err, IfErr, IfOk, None, Ok, Some, length};
-ghost use Rattle.surf_rle.specs.Drawings.{IsSheet, rest_of, sheet_grid};
+ghost use Rattle.surf_rle.specs.Drawings.{IsPlaced, IsSheet, rest_of};
 ghost use Rattle.surf_rle.specs.Patterns.{cells_read, marks_from};
 ghost use Rattle.surf_rle.specs.Rle.{Refuses, box_fault};
 ghost use Rattle.surf_text.specs.Bytes.{lines_of};
@@ -11,20 +11,18 @@ use std::alloc::Global;
 use surf_auto::SourceError;
 use surf_text::{Lines, trim};
 
-/// The most sites of a universe.
+/// The most sites of a grid.
 const SITE_LIMIT: u128 = 1_000_000;
 
-/// Refuses a box that is empty or, with its margin, too large.
+/// Refuses a box that is empty, or whose grid is too large.
 pub fn check_box(sheet: &Sheet) -> Result<(), SourceError>
-    ensures ok { IfOk result
-        (λ _. box_fault sheet.now.margin sheet.now.width sheet.now.height ≡ None) }
-    ensures refused { IfErr result
-        (λ f. box_fault sheet.now.margin sheet.now.width sheet.now.height ≡ Some f) }
+    ensures ok { IfOk result (λ _. box_fault sheet.now ≡ None) }
+    ensures refused { IfErr result (λ f. box_fault sheet.now ≡ Some f) }
 {
     if sheet.width == 0 || sheet.height == 0 {
         return Err(SourceError::EmptyGrid);
     }
-    let sites = u128::from(sheet.full_width()) * u128::from(sheet.full_height());
+    let sites = u128::from(sheet.full_width) * u128::from(sheet.full_height);
     if sites > SITE_LIMIT {
         return Err(SourceError::GridTooLarge(sites));
     }
@@ -61,17 +59,17 @@ pub fn read_cells(
     sheet: Sheet,
     lines: &mut Lines<'_>,
 ) -> Result<Vec<u32>, SourceError>
-    requires sheet { box_fault sheet.margin sheet.width sheet.height ≡ None }
-    requires small { sheet.margin ≤ 1000 }
+    requires sheet { box_fault sheet ≡ None }
+    requires placed { IsPlaced sheet }
     requires within { length lines.old.left ≤ 2147483648 }
     ensures ok { IfOk result
-        (λ v. cells_read sheet.margin (sheet_grid sheet) sheet.width sheet.height
-        (marks_from (lines.old.number + 1) (lines_of lines.old.left)) ≡ Ok v.items) }
+        (λ v. cells_read sheet (marks_from (lines.old.number + 1) (lines_of lines.old.left))
+        ≡ Ok v.items) }
     ensures refused { IfErr result
-        (λ f. Refuses (cells_read sheet.margin (sheet_grid sheet) sheet.width sheet.height
+        (λ f. Refuses (cells_read sheet
         (marks_from (lines.old.number + 1) (lines_of lines.old.left))) f) }
 {
-    let sites = sheet.full_width() * sheet.full_height();
+    let sites = sheet.full_width * sheet.full_height;
     let mut cells = vec![in alloc; 0u32; sites as usize].map_err(|_| SourceError::NoMemory)?;
     draw_lines(sheet, &mut cells, lines)?;
     Ok(cells)

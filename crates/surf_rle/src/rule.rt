@@ -36,8 +36,8 @@ fn suffix_neighbours(suffix: &[u8]) -> Option<Neighbours>
     }
 }
 
-// What follows a first letter.
-fn text_behind(capital: u8, small: u8, text: &[u8]) -> Option<&[u8]>
+/// What follows a first letter, which is a capital or small.
+pub fn text_behind(capital: u8, small: u8, text: &[u8]) -> Option<&[u8]>
     ensures { MatchOption result (behind capital small text.now ≡ None)
         (λ r. behind capital small text.now ≡ Some r.now) }
 {

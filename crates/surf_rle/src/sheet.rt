@@ -3,19 +3,26 @@ ghost use Rattle.std.specs.Prelude.{◌≡◌, ℕ, ◌+◌, ◌*◌, ◌^◌, �
 ghost use Rattle.surf_rle.specs.Drawings.{Draws, IsSheet, over};
 ghost use Rattle.surf_rle.specs.Items.{signs_of};
 ghost use Rattle.surf_rle.specs.Patterns.{Placed, mark};
+ghost use Rattle.surf_rle.specs.Said.{header_by};
+ghost use Rattle.surf_rle.specs.Sheets.{sheet_of};
 ghost use Rattle.surf_rle.specs.declared.item.Sign.TheVariants.{Live};
 
+use crate::header::Header;
 use crate::item::{Sign, next_sign};
+use crate::torus::Sides;
 use surf_auto::SourceError;
 use surf_lattice::GridKind;
 
-/// A box with a margin on each side.
+/// A box in a grid, where its upper left corner has both coordinates `corner`.
 #[derive(Clone, Copy, Debug)]
 pub struct Sheet {
     pub kind: GridKind,
+    pub wrap: bool,
+    pub full_width: u64,
+    pub full_height: u64,
     pub width: u32,
     pub height: u32,
-    pub margin: u32,
+    pub corner: u32,
 }
 
 /// Where the next item stands in the box, or below or to the right of it.
@@ -25,19 +32,31 @@ pub struct Pen {
     pub column: u64,
 }
 
-impl Sheet {
-    /// The width with the margin.
-    pub fn full_width(&self) -> u64
-        ensures { result ≡ self.now.width + 2 * self.now.margin }
-    {
-        u64::from(self.width) + 2 * u64::from(self.margin)
-    }
-
-    /// The height with the margin.
-    pub fn full_height(&self) -> u64
-        ensures { result ≡ self.now.height + 2 * self.now.margin }
-    {
-        u64::from(self.height) + 2 * u64::from(self.margin)
+/// Where the box of a header stands: at the corner of its torus, or inside a margin on each side.
+pub fn sheet_of(margin: u32, kind: GridKind, header: &Header<'_>, torus: Option<Sides>) -> Sheet
+    ensures { result ≡ sheet_of margin kind (header_by header.now) torus }
+{
+    let width = header.width;
+    let height = header.height;
+    match torus {
+        Some(sides) => Sheet {
+            kind,
+            wrap: true,
+            full_width: u64::from(sides.width),
+            full_height: u64::from(sides.height),
+            width,
+            height,
+            corner: 0,
+        },
+        None => Sheet {
+            kind,
+            wrap: false,
+            full_width: u64::from(width) + 2 * u64::from(margin),
+            full_height: u64::from(height) + 2 * u64::from(margin),
+            width,
+            height,
+            corner: margin,
+        },
     }
 }
 
@@ -60,8 +79,8 @@ fn draw_live(sheet: Sheet, pen: Pen, cells: &mut [u32], count: u32)
         ≡ over sheet cells.old
         (record { row = pen.row; column = pen.column; mark = mark line (Live count) } ∷ ps) }
 {
-    let margin = u64::from(sheet.margin);
-    let from = (pen.row + margin) * sheet.full_width() + (pen.column + margin);
+    let corner = u64::from(sheet.corner);
+    let from = (pen.row + corner) * sheet.full_width + (pen.column + corner);
     fill(cells, from as usize, count as usize);
 }
 

@@ -15,7 +15,6 @@ invariant_of-result c =
       | in-Hex w ↦ w.degree-is ∙ ap degree (sym w.in-Hex.is)
     ] in
     record {
-      stands = is_universe s.kind s.margin s.width s.height c.full_width.result c.full_height.result c.new-local.result c.in_ok-cells.cells.items
-          (marks_from (c.args.lines.now.number + 1) (lines_of c.args.lines.now.left)) c.in_ok-check_box.ensures.ok c.in_ok-cells.ensures.ok c.degree.ensures.law
-          (ap (λ (C : Counts). C.degree) c.new-local.ensures ∙ same) c.full_width.ensures c.full_height.ensures;
+      stands = is_universe s c.new-local.result c.in_ok-cells.cells.items (marks_from (c.args.lines.now.number + 1) (lines_of c.args.lines.now.left))
+          c.requires.placed c.in_ok-check_box.ensures.ok c.in_ok-cells.ensures.ok c.degree.ensures.law (ap (λ (C : Counts). C.degree) c.new-local.ensures ∙ same);
     }
