@@ -1,0 +1,3 @@
+pub mod Moore
+pub mod Halves
+pub mod Laws
