@@ -1,2 +1,4 @@
-mod Halves
+pub mod Halves
 pub mod Rules
+mod Sums
+pub mod Cells
