@@ -1,0 +1,4 @@
+pub mod Halves
+pub mod Rules
+mod Sums
+pub mod Cells

@@ -1,0 +1,4 @@
+pub mod Moore
+pub mod Halves
+pub mod Laws
+pub mod Rows
