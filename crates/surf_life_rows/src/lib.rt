@@ -1,5 +1,5 @@
-//! Tests of counts of eight neighbours: known patterns, and random soups against a plain program that
-//! counts eight neighbours.
+//! Tests of counts of eight neighbours: known patterns, and random soups against a plain program
+//! that counts them one by one.
 #![tactic(auto)]
 
 #[cfg(test)]
