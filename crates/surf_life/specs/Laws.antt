@@ -38,7 +38,8 @@ StepsByEight =
 -- the start states are states of both phases
 abbrev pub StartsInBoth : Type 0
 StartsInBoth =
-    (C : Counts) (g : Grid) (cells : List ℕ) → IsUniverse (halves C g cells) →
+    (C : Counts) (g : Grid) (edge : ℕ) (cells : List ℕ) →
+    IsUniverse (universe g (moore_rule C) edge cells) →
     (i f : ℕ) → i < length cells → f < (moore_rule C).phases →
     slice_index cells i < (moore_rule C).states f
 
