@@ -200,5 +200,8 @@ equations_in (l ∷ ls) = equation l.line ++ equations_in ls
 
 abbrev pub parts_in : List Placed → PartsOf (List ℕ)
 parts_in ls =
-    record { inputs = flat_map inputs_in ls; outputs = flat_map outputs_in ls;
-    equations = equations_in ls }
+    record {
+      inputs = flat_map inputs_in ls;
+      outputs = flat_map outputs_in ls;
+      equations = equations_in ls;
+    }

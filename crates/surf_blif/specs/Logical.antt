@@ -43,9 +43,9 @@ joined_from n None (l ∷ ls) =
 joined_from n (Some so_far) (l ∷ ls) =
     if goes_on (cut l)
     then joined_from (n + 1)
-        (Some (record { number = so_far.number; text = so_far.text ++ part_of l })) ls
+    (Some (record { number = so_far.number; text = so_far.text ++ part_of l })) ls
     else (record { number = so_far.number; text = so_far.text ++ cut l })
-        ∷ joined_from (n + 1) None ls
+    ∷ joined_from (n + 1) None ls
 
 abbrev pub logical_lines : List ℕ → List Logical
 logical_lines bytes = joined_from 1 None (lines_of bytes)

@@ -27,8 +27,11 @@ with_outputs p ts = record { inputs = p.inputs; outputs = p.outputs ++ ts; equat
 
 abbrev pub with_equation : PartsOf (List ℕ) → List (List ℕ) → PartsOf (List ℕ)
 with_equation p ts =
-    record { inputs = p.inputs; outputs = p.outputs;
-    equations = p.equations ++ equation_of ts [] ∷ [] }
+    record {
+      inputs = p.inputs;
+      outputs = p.outputs;
+      equations = p.equations ++ equation_of ts [] ∷ [];
+    }
 
 -- f on the last of a list
 abbrev pub on_last : {X : Type 0} → (X → X) → List X → List X
@@ -39,8 +42,12 @@ on_last f (x ∷ y ∷ ys) = x ∷ on_last f (y ∷ ys)
 -- a row more; the first row gives the polarity
 abbrev pub add_row : {N : Type 0} → RowOf → EquationOf N → EquationOf N
 add_row r q =
-    record { output = q.output; inputs = q.inputs; rows = q.rows ++ r.literals ∷ [];
-    polarity = polarity q.rows }
+    record {
+      output = q.output;
+      inputs = q.inputs;
+      rows = q.rows ++ r.literals ∷ [];
+      polarity = polarity q.rows;
+    }
   where
     polarity : List (List Literal) → Bool
     polarity [] = r.output
@@ -81,8 +88,11 @@ pub record Reached : Type 0 where
 
 abbrev pub after_line : Reached → Line → Reached
 after_line s l =
-    record { begun = begins s.begun l; cover = cover_after s.cover l;
-    held = held_after s.cover s.held l }
+    record {
+      begun = begins s.begun l;
+      cover = cover_after s.cover l;
+      held = held_after s.cover s.held l;
+    }
 
 abbrev pub unless_fault : {X : Type 0} → Option TextFault → Result X TextFault → Result X TextFault
 unless_fault None r = r

@@ -14,7 +14,7 @@ use Rattle.surf_circuit.specs.Inputs.{bit_name, with_inputs}
 abbrev pub ShowsAt : System (List ℕ) → List (List ℕ) → List Place → List Bool → ℕ → Type 0
 ShowsAt S c places values i =
     (p : Place) (v : Bool) → slice_get places i ≡ Some p → slice_get values i ≡ Some v →
-        Holds S.surface.grid c p.site (bit_name v)
+    Holds S.surface.grid c p.site (bit_name v)
 
 -- every run from the start has at most so many events, and each output site then is a blank wire or
 -- holds its value. Where nothing can happen any more it had exactly so many, each output site holds
@@ -25,7 +25,7 @@ pub record SettlesTo (S : System (List ℕ)) (outputs : List Place) (events : �
   pub shows : (es : List Event) → IsRun S.surface S.start es → (i : ℕ) (p : Place) (v : Bool) →
       slice_get outputs i ≡ Some p → slice_get values i ≡ Some v →
       Holds S.surface.grid (left_by S.surface S.start es) p.site (codes "w")
-          ⊎ Holds S.surface.grid (left_by S.surface S.start es) p.site (bit_name v)
+      ⊎ Holds S.surface.grid (left_by S.surface S.start es) p.site (bit_name v)
   pub exactly : (es : List Event) → IsRun S.surface S.start es →
       Stuck S.surface (left_by S.surface S.start es) → length es ≡ events
   pub settled : (es : List Event) → IsRun S.surface S.start es →

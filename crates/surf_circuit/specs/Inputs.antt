@@ -38,7 +38,7 @@ abbrev pub is_unset : System (List ℕ) → Site → Bool
 is_unset S s =
     nat_lt s.x S.surface.grid.width
     && (nat_lt s.y S.surface.grid.height && is_text (slice_get S.start (place S.surface.grid s))
-        (codes "?"))
+    (codes "?"))
 
 -- the first of the places that is no unset input
 abbrev pub first_set : System (List ℕ) → List Place → Option SetError

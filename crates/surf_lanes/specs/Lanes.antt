@@ -77,7 +77,7 @@ pub record IsNewest (spans : List Span) (l : LanesOf) (newest : ℕ) : Type 0 wh
 abbrev pub PackedIsOne : Type 0
 PackedIsOne = (spans : List Span) (l l' : LanesOf) → IsPacked spans l → IsPacked spans l' →
     ((i : ℕ) → i < length spans → lane_at l i ≡ lane_at l' i) × (l.count ≡ l'.count)
-        × (l.row ≡ l'.row)
+    × (l.row ≡ l'.row)
 
 -- lanes while spans are packed one after another, with the last row in each lane
 pub record PackingOf : Type 0 where

@@ -60,10 +60,10 @@ undriven_by flags p =
 abbrev pub flags_fault : List Bool → List Bool → PartsOf ℕ → Option (Fault ℕ)
 flags_fault driven seen p =
     or_else (option_map DeclaredTwice (or_else (twice_by driven p.inputs)
-        (twice_by seen p.outputs)))
+    (twice_by seen p.outputs)))
     (or_else (option_map DrivenTwice (twice_by (marked driven p.inputs) (outputs_of p.equations)))
     (or_else (option_map Undriven
-        (undriven_by (marked (marked driven p.inputs) (outputs_of p.equations)) p))
+    (undriven_by (marked (marked driven p.inputs) (outputs_of p.equations)) p))
     (no_outputs p.outputs)))
 
 -- the number of the name is in range

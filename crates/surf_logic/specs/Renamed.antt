@@ -12,8 +12,11 @@ equation_by f q =
 
 abbrev pub parts_by : {M N : Type 0} → (M → N) → PartsOf M → PartsOf N
 parts_by f p =
-    record { inputs = map f p.inputs; outputs = map f p.outputs;
-    equations = map (equation_by f) p.equations }
+    record {
+      inputs = map f p.inputs;
+      outputs = map f p.outputs;
+      equations = map (equation_by f) p.equations;
+    }
 
 -- the parts over the texts of their names
 abbrev pub by_text : Numbered → PartsOf (List ℕ)

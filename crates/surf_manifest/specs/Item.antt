@@ -74,8 +74,8 @@ fraction_value (Some ds) = millionths 100000 ds
 abbrev pub rate_parts : List ℕ → Option (List ℕ) → Option ℕ
 rate_parts whole part =
     if is_digits whole
-        && (is_fraction part && nat_le (value_from 0 whole * 1000000 + fraction_value part)
-        1000000000000)
+    && (is_fraction part && nat_le (value_from 0 whole * 1000000 + fraction_value part)
+    1000000000000)
     then Some (value_from 0 whole * 1000000 + fraction_value part)
     else None
 
@@ -99,8 +99,13 @@ rule_of_tokens rate (a ∷ arrow ∷ c ∷ []) =
     else None
 rule_of_tokens rate (a ∷ plus ∷ b ∷ arrow ∷ c ∷ also ∷ d ∷ []) =
     if two_test a plus b arrow c also d
-    then Some (record { rate = rate; left = a; right = Some b; left_after = c;
-        right_after = Some d })
+    then Some (record {
+      rate = rate;
+      left = a;
+      right = Some b;
+      left_after = c;
+      right_after = Some d;
+    })
     else None
 rule_of_tokens rate ts = None
 
@@ -124,7 +129,7 @@ abbrev pub rule_line_of : ℕ → List ℕ → Result Item ManifestError
 rule_line_of n [] = Err (BadRule n)
 rule_line_of n (b ∷ bs) =
     if b == 40 then bracketed_rule n (before 41 bs) (after 41 bs)
-        else rule_from n 1000000 (tokens_of (b ∷ bs))
+    else rule_from n 1000000 (tokens_of (b ∷ bs))
 
 abbrev pub row_of : ℕ → List (List ℕ) → Result Item ManifestError
 row_of n ts = if list_all is_name ts then Ok (Row ts) else Err (BadLine n)

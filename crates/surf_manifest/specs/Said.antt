@@ -17,8 +17,13 @@ abbrev pub rule_of_sides : ℕ → Sides → systems.Rule (List ℕ)
 rule_of_sides rate (One a c) =
     record { rate = rate; left = a.now; right = None; left_after = c.now; right_after = None }
 rule_of_sides rate (Two a b c d) =
-    record { rate = rate; left = a.now; right = Some b.now; left_after = c.now;
-    right_after = Some d.now }
+    record {
+      rate = rate;
+      left = a.now;
+      right = Some b.now;
+      left_after = c.now;
+      right_after = Some d.now;
+    }
 
 abbrev pub rule_of_line : RuleLine → systems.Rule (List ℕ)
 rule_of_line r = rule_of_sides r.rate r.sides

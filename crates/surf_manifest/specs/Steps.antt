@@ -14,8 +14,11 @@ with_part p (Wrap b) = record p { wrap = b }
 with_part p (Kept o) = record p { options = p.options ++ o ∷ [] }
 with_part p (Rule r) = record p { rules = p.rules ++ r ∷ [] }
 with_part p (Row names) =
-    record p { width = if p.height == 0 then length names else p.width; height = p.height + 1;
-    start = p.start ++ names }
+    record p {
+      width = if p.height == 0 then length names else p.width;
+      height = p.height + 1;
+      start = p.start ++ names;
+    }
 with_part p (Colour t) = record p { colours = p.colours ++ t ∷ [] }
 
 abbrev pub with_result : Parts → Result Item ManifestError → Parts
@@ -46,8 +49,16 @@ nothing = record {
   has_rules = false;
   has_state = false;
   has_colours = false;
-  parts = record { kind = Square; wrap = false; options = []; rules = []; width = 0; height = 0;
-      start = []; colours = [] };
+  parts = record {
+    kind = Square;
+    wrap = false;
+    options = [];
+    rules = [];
+    width = 0;
+    height = 0;
+    start = [];
+    colours = [];
+  };
 }
 
 -- the step of one line

@@ -24,7 +24,7 @@ abbrev pub is_option : OptionLine → Bool
 is_option o =
     (is_word o.key && (begins_content o.key && lacks 61 o.key))
     && (not (bytes_eq o.key (codes "geometry")) && (not (bytes_eq o.key (codes "wrap"))
-        && is_text o.value))
+    && is_text o.value))
 
 abbrev pub is_colour : List ℕ → Bool
 is_colour t = begins_content t && is_text t

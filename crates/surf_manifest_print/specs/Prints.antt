@@ -17,7 +17,7 @@ use Rattle.surf_manifest_print.specs.Legends.{LegendText, IsLegend}
 abbrev pub six_digits : ℕ → List ℕ
 six_digits m =
     (48 + m / 100000) ∷ (48 + m / 10000 % 10) ∷ (48 + m / 1000 % 10) ∷ (48 + m / 100 % 10)
-        ∷ (48 + m / 10 % 10) ∷ (48 + m % 10) ∷ []
+    ∷ (48 + m / 10 % 10) ∷ (48 + m % 10) ∷ []
 
 -- a point and the digits of the millionths without zeros at the end, unless there are none
 abbrev pub fraction_text : ℕ → List ℕ
@@ -62,7 +62,7 @@ abbrev pub legend_lines : Option LegendText → List (List ℕ)
 legend_lines None = []
 legend_lines (Some l) =
     map (place_text (codes "input")) l.inputs ++ (map (place_text (codes "output")) l.outputs
-        ++ (events_text l.events ∷ []))
+    ++ (events_text l.events ∷ []))
 
 abbrev pub colour_lines : Option (List (List ℕ)) → List (List ℕ)
 colour_lines None = []
@@ -71,8 +71,8 @@ colour_lines (Some texts) = codes "!START_COLORMAP" ∷ (texts ++ (codes "!END_C
 abbrev pub state_block : ManifestText → List (List ℕ)
 state_block m =
     codes "!START_INIT_STATE"
-        ∷ (map spaced (rows_of m.system.surface.grid.width m.system.surface.grid.height
-        m.system.start) ++ (codes "!END_INIT_STATE" ∷ []))
+    ∷ (map spaced (rows_of m.system.surface.grid.width m.system.surface.grid.height
+    m.system.start) ++ (codes "!END_INIT_STATE" ∷ []))
 
 abbrev pub rule_block : ManifestText → List (List ℕ)
 rule_block m =
@@ -85,7 +85,7 @@ block_lines m = rule_block m ++ (state_block m ++ colour_lines m.colormap)
 abbrev pub print_lines : ManifestText → Option LegendText → List (List ℕ)
 print_lines m l =
     legend_lines l ++ (geometry_text m.system.surface.grid.kind
-        ∷ wrap_text m.system.surface.grid.wrap ∷ (map option_text m.options ++ block_lines m))
+    ∷ wrap_text m.system.surface.grid.wrap ∷ (map option_text m.options ++ block_lines m))
 
 -- the canonical text, with the legend's lines where one is given
 abbrev pub print_of : ManifestText → Option LegendText → List ℕ

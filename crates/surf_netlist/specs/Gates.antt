@@ -30,12 +30,12 @@ signed_row nets (i ∷ is) [] = []
 abbrev pub and_gate : Signed → Signed → Gate
 and_gate a b =
     Two (not a.positive && not b.positive) (not a.positive && b.positive)
-        (a.positive && not b.positive) (a.positive && b.positive) a.net b.net
+    (a.positive && not b.positive) (a.positive && b.positive) a.net b.net
 
 abbrev pub or_gate : Signed → Signed → Gate
 or_gate a b =
     Two (not a.positive || not b.positive) (not a.positive || b.positive)
-        (a.positive || not b.positive) (a.positive || b.positive) a.net b.net
+    (a.positive || not b.positive) (a.positive || b.positive) a.net b.net
 
 -- gates, and the signed net that they give
 pub record Made : Type 0 where
@@ -100,7 +100,7 @@ abbrev pub cover_gates : (next : ℕ) → List (List Signed) → (polarity : Boo
 cover_gates next [] polarity = Constant false ∷ []
 cover_gates next (row ∷ rows) polarity =
     if list_any is_empty (row ∷ rows) then Constant polarity ∷ []
-        else finished polarity (rows_made next row rows).gates (rows_made next row rows).result
+    else finished polarity (rows_made next row rows).gates (rows_made next row rows).result
 
 -- the gates of an equation. `nets` are those of the names, and `next` is the net of its first gate
 abbrev pub gates_of_equation : (next : ℕ) → (nets : ℕ → ℕ) → EquationOf ℕ → List Gate

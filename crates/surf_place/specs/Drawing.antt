@@ -35,7 +35,7 @@ gate_rows net (One z o input ∷ gates) below =
     ∷ gate_rows (net + 1) gates below
 gate_rows net (Two t00 t01 t10 t11 first second ∷ gates) below =
     Tap first net (wires false true true false) ∷ Tap second net (Twos t00 t01 t10 t11)
-        ∷ Source net (wires true true false false) ∷ gate_rows (net + 1) gates below
+    ∷ Source net (wires true true false false) ∷ gate_rows (net + 1) gates below
 
 abbrev pub rows_of : NetlistOf → List Row
 rows_of N = input_rows N.inputs 0 (gate_rows N.inputs N.gates (map Ends N.outputs))
@@ -114,4 +114,4 @@ passing N p c r = greatest (passes N p c r) (nets_of N)
 abbrev pub tile_of : NetlistOf → Placement → (c r : ℕ) → Tile
 tile_of N p c r =
     tile_in (row_at N r) (place_in c (p.column (net_of (row_at N r)))) (is_some (passing N p c r))
-        (nat_lt r (last_row N (net_of (row_at N r))))
+    (nat_lt r (last_row N (net_of (row_at N r))))

@@ -73,8 +73,8 @@ SlotLaw L l (Gate1 zero one) s =
     × IsPlain (kind_of L f.site))
 SlotLaw L l (Gate2 t00 t01 t10 t11) s =
     (f : Slot) × (g : Slot) × (l.feeders s ≡ f ∷ g ∷ []) × IsFeeder L l f s × IsFeeder L l g s
-        × (kind_of L f.site ≡ A) × (kind_of L g.site ≡ B)
-        × IsGate L.netlist (l.net s) (Two t00 t01 t10 t11 (l.net f) (l.net g))
+    × (kind_of L f.site ≡ A) × (kind_of L g.site ≡ B)
+    × IsGate L.netlist (l.net s) (Two t00 t01 t10 t11 (l.net f) (l.net g))
 SlotLaw L l Centre s = Carries L l s (λ f. kind_of L f.site ≡ cond s.down V H)
 
 -- the names that a site of this kind can take
@@ -95,7 +95,7 @@ pub record LiteralLaw (L : Plan) (l : SlotLists) : Type 0 where
   pub neighbours : (p q : Site) → Adjacent (grid_of L) p q → (r : Reaction) →
       CanTake (kind_of L p) (giver r) → CanTake (kind_of L q) (reader r) →
       (u : Bool) × (v : Bool) × IsSlot L (slot p u) × IsSlot L (slot q v)
-          × (Among (slot p u) (l.feeders (slot q v)) ⊎ Among (slot q v) (l.feeders (slot p u)))
+      × (Among (slot p u) (l.feeders (slot q v)) ⊎ Among (slot q v) (l.feeders (slot p u)))
   pub as_many_inputs : length L.inputs ≡ L.netlist.inputs
   pub input : (i : ℕ) (s : Site) → slice_get L.inputs i ≡ Some s → IsInside (grid_of L) s
       × (kind_of L s ≡ Input) × (l.net (slot s false) ≡ i)

@@ -86,7 +86,7 @@ FilledRight L bits = (l : Lists) → LocalLaw L l → (es : List Event) → IsRu
     (s : Site) → IsInside (grid_of L) s → (name : State) →
     name_after L bits es s ≡ Some (spell name) →
     (down v : Bool) → slot_value name down ≡ Some v → v
-        ≡ value_in (net_meaning L.netlist bits) (l.net (slot s down))
+    ≡ value_in (net_meaning L.netlist bits) (l.net (slot s down))
 
 abbrev pub wire_name : List ℕ
 wire_name = 119 ∷ []

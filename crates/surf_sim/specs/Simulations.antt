@@ -50,7 +50,7 @@ IsStep old new None =
     × (new ≡ old)
 IsStep old new (Some e) =
     (next_of nat_eq old.placed.surface old.placed.names (words_of old.generator)
-        ≡ Some (e, words_of new.generator))
+    ≡ Some (e, words_of new.generator))
     × (new.placed ≡ record old.placed { names = after old.placed.surface old.placed.names e })
 
 -- one small weight for each site, of not too many

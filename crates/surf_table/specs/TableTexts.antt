@@ -125,7 +125,7 @@ kind_of degree = if degree == 6 then Hex else Square
 abbrev pub automaton_of : ℕ → Head → List ℕ → ℕ × ℕ → List ℕ → Universe
 automaton_of margin h next size cells =
     universe (plain (kind_of h.degree) (size.0 + 2 * margin) (size.1 + 2 * margin))
-        (table_rule (record { degree = h.degree; weights = h.weights; next = next })) h.edge cells
+    (table_rule (record { degree = h.degree; weights = h.weights; next = next })) h.edge cells
 
 -- what these lines spell, with a margin so wide; no line behind the end is looked at
 abbrev pub read_table : ℕ → List Line → Result Universe SourceError
