@@ -20,7 +20,7 @@ pub enum SourceError {
     /// A side is 0.
     #[error("EmptyGrid")]
     EmptyGrid,
-    /// The number of sites with the margin, above 1,000,000.
+    /// The number of sites of the box with its margin, or of the torus, above 1,000,000.
     #[error("GridTooLarge")]
     GridTooLarge(u128),
     /// An item that is none.
