@@ -66,8 +66,10 @@ pub fn print_manifest(
     legend: Option<&Legend>,
 ) -> Result<Vec<u8>, NoMemory>
     requires { IfSome legend (λ l. HasWords l.now) }
-    ensures text { IfOk result (λ v. v.items ≡ print_of manifest.now.text (option_copied legend.entry)) }
-    ensures read { IfOk result (λ v. IsLegend (option_copied legend.entry) → manifest_of v.items ≡ Ok manifest.now.text) }
+    ensures text { IfOk result
+        (λ v. v.items ≡ print_of manifest.now.text (option_copied legend.entry)) }
+    ensures read { IfOk result (λ v. IsLegend (option_copied legend.entry)
+        → manifest_of v.items ≡ Ok manifest.now.text) }
 {
     let shorts = shorts_of(alloc, manifest.names())?;
     let room = manifest_room(manifest).saturating_add(legend_room(legend));

@@ -24,7 +24,8 @@ impl Printer {
         self.put_name(names, name)
     }
 
-    // Puts a blank and a short name behind the bytes that wait, and appends these where they are many.
+    // Puts a blank and a short name behind the bytes that wait, and appends those where they are
+    // many.
     #[inline(always)]
     fn put_short(
         &mut self,
@@ -123,7 +124,8 @@ impl Printer {
     ) -> Result<(), NoMemory>
         requires shorts { shorts.now ≡ short_texts names.now }
         requires names { NamesBelow (length names.now) row.now }
-        ensures { OnOk result (self.new ≡ self.old ++ (spaced (map (text_of names.now) row.now) ++ 10 ∷ [])) }
+        ensures { OnOk result
+            (self.new ≡ self.old ++ (spaced (map (text_of names.now) row.now) ++ 10 ∷ [])) }
     {
         self.put_names(names, shorts, row, piece)?;
         self.put(b"\n")
@@ -141,7 +143,8 @@ impl Printer {
         requires names { NamesBelow (length names.now) start.now }
         requires shorts { shorts.now ≡ short_texts names.now }
         requires sites { length start.now ≡ width * height }
-        ensures { OnOk result (self.new ≡ self.old ++ ended (map spaced (rows_of width height (map (text_of names.now) start.now)))) }
+        ensures { let texts = map (text_of names.now) start.now in
+            OnOk result (self.new ≡ self.old ++ ended (map spaced (rows_of width height texts))) }
     {
         let mut piece = [0u8; PIECE];
         let mut rest = start;
@@ -165,7 +168,10 @@ impl Printer {
         requires names { NamesBelow (length names.now) start.now }
         requires shorts { shorts.now ≡ short_texts names.now }
         requires sites { length start.now ≡ width * height }
-        ensures { OnOk result (self.new ≡ self.old ++ ended (codes "!START_INIT_STATE" ∷ (map spaced (rows_of width height (map (text_of names.now) start.now)) ++ (codes "!END_INIT_STATE" ∷ [])))) }
+        ensures { let texts = map (text_of names.now) start.now in
+            let lines = map spaced (rows_of width height texts) in
+            OnOk result (self.new ≡ self.old ++ ended (codes "!START_INIT_STATE"
+            ∷ (lines ++ (codes "!END_INIT_STATE" ∷ [])))) }
     {
         self.put_line(b"!START_INIT_STATE")?;
         self.put_rows(names, shorts, start, width, height)?;
