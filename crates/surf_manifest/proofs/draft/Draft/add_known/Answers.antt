@@ -1,4 +1,4 @@
-use Rattle.std.proofs.Common.{rules, ap, ◌∙◌, ◌+◌, sym, ◌<◌, ◌≤◌, List, ℕ, [], ◌∷◌, length, refl}
+use Rattle.std.proofs.Common.{rules, ap, ◌∙◌, ◌+◌, sym, ◌<◌, ◌≤◌, List, ℕ, [], ◌∷◌, length}
 use Rattle.surf_rules.specs.Names.{text_of}
 use Rattle.surf_manifest.specs.Limits.{with_names}
 use Rattle.surf_manifest.specs.Drafts.{held_by}

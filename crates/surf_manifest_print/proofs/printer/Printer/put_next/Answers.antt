@@ -1,6 +1,5 @@
-use Rattle.std.proofs.Common.{rules, ◌≡◌, ◌==◌, ◌++◌, ◌∷◌, IfOk, List, ℕ, Some, ap, sym, ◌∙◌, ◌<◌, false, get_or, length, slice_get, subst, take}
+use Rattle.std.proofs.Common.{rules, ◌≡◌, ◌==◌, ◌++◌, IfOk, List, ℕ, Some, ap, sym, ◌∙◌, ◌<◌, false, get_or, length, slice_get, subst, take}
 use Rattle.std.proofs.lemmas.Option.{slice_get-get_or}
-use Rattle.surf_rules.specs.Names.{text_of}
 use Rattle.surf_manifest_print.specs.Rows.{short_texts}
 use Rattle.surf_manifest_print.proofs.ShortTexts.{short_at}
 use Rattle.surf_manifest_print.proofs.printer.Printer.put_next.Goals as goal
