@@ -45,6 +45,11 @@ sites_with n a b ks new k t g h lt is named =
     ∙ (ap (λ v. map (text_of a) ks ++ v ∷ []) named
     ∙ sym (take_all 33554432 (map (text_of a) ks ++ t ∷ []) e)))
 
+pub site_more : (a : List (List ℕ)) (ks new : List ℕ) (k : ℕ) → length ks < 33554432 → new ≡ ks ++ k ∷ [] → map (text_of a) new ≡ take 33554432 (map (text_of a) ks ++ text_of a k ∷ [])
+site_more a ks new k lt is =
+    let e : length (map (text_of a) ks ++ text_of a k ∷ []) ≤ 33554432 = omega (arith, length-append (map (text_of a) ks) (text_of a k ∷ []), length-map ks (text_of a), lt) in
+    ap (λ v. map (text_of a) v) is ∙ (map-append (text_of a) ks (k ∷ []) ∙ sym (take_all 33554432 (map (text_of a) ks ++ text_of a k ∷ []) e))
+
 -- the names of a rule or of a site more, where there is room, and where there is none
 pub rule_named : (a b : List (List ℕ)) (f : Rule → systems.Rule (List ℕ)) (rs : List Rule) (ts : List (List ℕ)) → length rs < 1048576 → b ≡ with_texts a ts → b ≡ (if nat_lt (length (map f rs)) 1048576 then with_texts a ts else a)
 rule_named a b f rs ts lt is = rw (length-map rs f, lt-ltb (length rs) 1048576 lt) is

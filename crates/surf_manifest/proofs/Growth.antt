@@ -2,9 +2,12 @@
 use Rattle.std.proofs.Common.{ℕ, zero, suc, ◌≡◌, ◌+◌, ◌<◌, ◌≤◌, List, [], ◌∷◌, ◌++◌, length, map, refl, sym, subst, ◌∙◌, ap, arith, Bool, true, false, Option, Some, None, slice_get, unwrap_or, if◌then◌else◌, length-append, All, IfSome, get_or, ◌&&◌}
 use Rattle.std.specs.List.{list_all, list_any}
 use Rattle.std.proofs.lemmas.List.Folds.{list_all-append}
-use Rattle.std.specs.Option.{option_map}
+use Rattle.std.specs.Option.{is_none, option_map}
 use Rattle.std.specs.Str.{bytes_eq}
 use Rattle.std.proofs.lemmas.Option.{slice_get_within}
+use Rattle.std.proofs.lemmas.Bool.{and_parts, false≢true}
+use Rattle.std.proofs.lemmas.Slice.Eq.{bytes_eq-Decides}
+use Rattle.std.proofs.Math.Bool.{or-true}
 use Rattle.surf_rules.specs.Names.{text_of, with_text}
 use Rattle.surf_rules.specs.declared.rule.Rule.{Rule}
 use Rattle.surf_world.specs.Renamings.{RuleBelow}
@@ -95,3 +98,31 @@ texts_if false ts t h e = list_all-append is_name ts (t ∷ []) ∙ both (list_a
 
 pub texts_with : (ts : List (List ℕ)) (t : List ℕ) → list_all is_name ts ≡ true → is_name t ≡ true → list_all is_name (with_text ts t) ≡ true
 texts_with ts t h e = texts_if (list_any (bytes_eq t) ts) ts t h e
+
+-- a text that is there
+text_any : (p : List ℕ → Bool) (ts : List (List ℕ)) (k : ℕ) (t : List ℕ) → slice_get ts k ≡ Some t → p t ≡ true → list_any p ts ≡ true
+text_any p [] k t at is = cc
+text_any p (u ∷ ts) zero t at is = let same : u ≡ t = cc in rw (same, is) refl
+text_any p (u ∷ ts) (suc k) t at is = rw (text_any p ts k t at is, or-true) refl
+
+pub known_text : (ts : List (List ℕ)) (k : ℕ) (t : List ℕ) → slice_get ts k ≡ Some t → with_text ts t ≡ ts
+known_text ts k t at = ap (λ b. if b then ts else ts ++ t ∷ []) (text_any (bytes_eq t) ts k t at ((bytes_eq-Decides t t).1 refl))
+
+pub known_here : (ts us : List (List ℕ)) (k : ℕ) (s t : List ℕ) → slice_get ts k ≡ Some s → s ≡ t → ts ≡ us → with_text us t ≡ us
+known_here ts us k s t at same is = subst (λ vs. with_text vs t ≡ vs) is (known_text ts k t (at ∙ ap (λ v. Some v) same))
+
+pub name_there : (ts : List (List ℕ)) (k : ℕ) (t : List ℕ) → list_all is_name ts ≡ true → slice_get ts k ≡ Some t → is_name t ≡ true
+name_there [] k t all at = cc
+name_there (u ∷ ts) zero t all at =
+    let p = and_parts (is_name u) (list_all is_name ts) all in
+    subst (λ v. is_name v ≡ true) (let e : u ≡ t = cc in e) p.0
+name_there (u ∷ ts) (suc k) t all at = name_there ts k t (and_parts (is_name u) (list_all is_name ts) all).1 at
+
+pub name_known : (ts : List (List ℕ)) (t : List ℕ) (o : Option ℕ) → list_all is_name ts ≡ true → is_none o ≡ false → IfSome o (λ k. slice_get ts k ≡ Some t) → is_name t ≡ true
+name_known ts t None all some at = absurd (false≢true (sym some))
+name_known ts t (Some k) all some at = name_there ts k t all at
+
+pub text_there : (ts : List (List ℕ)) (k : ℕ) → k < length ts → slice_get ts k ≡ Some (text_of ts k)
+text_there [] k lt = absurd (omega (arith, lt))
+text_there (t ∷ ts) zero lt = refl
+text_there (t ∷ ts) (suc k) lt = text_there ts k (omega (arith, lt))

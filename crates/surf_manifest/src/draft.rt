@@ -8,6 +8,7 @@ ghost use Rattle.surf_manifest.specs.Said.{rule_of_line};
 ghost use Rattle.surf_manifest.specs.WellFormed.{is_rule};
 
 use crate::error::ManifestError;
+use crate::interner::Interner;
 use crate::line::BlockKind;
 use crate::numbering::numbered_rule;
 use crate::option_lines::{Setting, option_line};
@@ -16,7 +17,7 @@ use crate::rule_lines::{RuleLine, rule_line};
 use std::alloc::Global;
 use surf_base::{NoMemory, Text};
 use surf_lattice::GridKind;
-use surf_rules::{Names, Rule};
+use surf_rules::Rule;
 
 /// The parts of a manifest that were read so far. Rules and sites beyond the limits are counted
 /// and not kept.
@@ -25,7 +26,7 @@ pub struct Draft {
     pub kind: GridKind,
     pub wrap: bool,
     pub options: Vec<OptionLine>,
-    pub names: Names,
+    pub names: Interner,
     pub rules: Vec<Rule>,
     pub rule_count: u64,
     pub width: u64,
@@ -58,7 +59,7 @@ impl Draft {
             kind: GridKind::Square,
             wrap: false,
             options: Vec::new(alloc),
-            names: Names::new(alloc),
+            names: Interner::new(alloc),
             rules: Vec::new(alloc),
             rule_count: 0,
             width: 0,

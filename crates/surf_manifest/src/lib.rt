@@ -9,6 +9,7 @@
 mod assembly;
 mod draft;
 mod error;
+mod interner;
 mod laws;
 mod line;
 mod manifest;

@@ -9,11 +9,12 @@ ghost use Rattle.surf_manifest.specs.WellFormed.{is_rule};
 ghost use Rattle.surf_world.specs.Renamings.{RuleBelow};
 ghost use Rattle.surf_world.specs.Worlds.{rule_of};
 
+use crate::interner::Interner;
 use crate::rule_lines::{RuleLine, Sides};
 use surf_base::NoMemory;
-use surf_rules::{Names, Rule};
+use surf_rules::Rule;
 
-fn intern_two(names: &mut Names, a: &[u8], b: &[u8]) -> Result<(u32, u32), NoMemory>
+fn intern_two(names: &mut Interner, a: &[u8], b: &[u8]) -> Result<(u32, u32), NoMemory>
     requires room { length names.old < 2 ^ 32 - 2 }
     requires names { (is_name a.now && is_name b.now) ≡ true }
     requires texts { list_all is_name names.old ≡ true }
@@ -29,7 +30,7 @@ fn intern_two(names: &mut Names, a: &[u8], b: &[u8]) -> Result<(u32, u32), NoMem
 }
 
 /// The rule of a line, over numbers of `names`, which grow by at most four.
-pub fn numbered_rule(names: &mut Names, line: &RuleLine<'_>) -> Result<Rule, NoMemory>
+pub fn numbered_rule(names: &mut Interner, line: &RuleLine<'_>) -> Result<Rule, NoMemory>
     requires room { length names.old < 2 ^ 32 - 4 }
     requires names { is_rule (rule_of_line line.now) ≡ true }
     requires texts { list_all is_name names.old ≡ true }

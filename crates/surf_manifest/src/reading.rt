@@ -191,7 +191,7 @@ impl Reading {
             width: draft.width as u32,
             height: draft.height as u32,
             options: draft.options,
-            names: draft.names,
+            names: draft.names.into_names(),
             rules: draft.rules,
             start: draft.start,
             colormap: colormap(self.has_colours, draft.colours),

@@ -1,6 +1,7 @@
 // Rows of the initial state.
 ghost use Rattle.std.specs.List.{list_all};
-ghost use Rattle.std.specs.Prelude.{◌≡◌, ◌+◌, ◌<◌, ◌^◌, IfErr, IfOk, MatchResult, [], ◌∷◌, length, true};
+ghost use Rattle.std.specs.Prelude.{◌≡◌, ◌+◌, ◌<◌, ◌^◌, IfErr, IfNone, IfOk, IfSome, MatchResult, Some, [], ◌∷◌, length, slice_get, true};
+ghost use Rattle.surf_rules.specs.Names.{text_of};
 ghost use Rattle.surf_manifest.specs.Answers.{Refuses};
 ghost use Rattle.surf_text.specs.Bytes.{tokens_of};
 ghost use Rattle.surf_manifest.specs.Drafts.{IsDraft, held_by};
@@ -11,7 +12,21 @@ use crate::draft::{Draft, SITE_LIMIT};
 use crate::error::ManifestError;
 use crate::words::is_name_token;
 use surf_base::NoMemory;
-use surf_text::next_token;
+use surf_text::{is_blank_byte, next_token};
+
+// The first token of a row, and what follows it.
+#[inline(always)]
+fn name_token(text: &[u8]) -> Option<(&[u8], &[u8])>
+    ensures some { IfSome result (λ r. tokens_of text.now ≡ r.0.now ∷ tokens_of r.1.now) }
+    ensures shorter { IfSome result (λ r. length r.1.now < length text.now) }
+    ensures none { IfNone result (tokens_of text.now ≡ []) }
+{
+    // most names are one byte long
+    if text.len() > 1 && !is_blank_byte(text[0]) && is_blank_byte(text[1]) {
+        return Some((&text[..1], &text[2..]));
+    }
+    next_token(text)
+}
 
 impl Draft {
     // Adds a site of this name, which is kept within the limit.
@@ -32,6 +47,42 @@ impl Draft {
         Ok(())
     }
 
+    // Adds a site of a name that is there.
+    #[inline(always)]
+    fn add_known(&mut self, name: u32) -> Result<(), NoMemory>
+        requires draft { IsDraft self.old }
+        requires name { name < length self.old.names }
+        requires counted { self.old.site_count < 2 ^ 63 }
+        ensures draft { IfOk result (λ _. IsDraft self.new) }
+        ensures held { IfOk result
+            (λ _. held_by self.new
+            ≡ with_names (held_by self.old) (text_of self.old.names name ∷ [])) }
+    {
+        self.site_count += 1;
+        if self.start.len() >= SITE_LIMIT {
+            return Ok(());
+        }
+        self.start.push(name).map_err(|_| NoMemory)?;
+        Ok(())
+    }
+
+    // Adds a site of this name, whose number may be known.
+    #[inline(always)]
+    fn add_name(&mut self, name: &[u8], known: Option<u32>) -> Result<(), NoMemory>
+        requires draft { IsDraft self.old }
+        requires name { IfNone known (is_name name.now ≡ true) }
+        requires known { IfSome known (λ k. slice_get self.old.names k ≡ Some name.now) }
+        requires counted { self.old.site_count < 2 ^ 63 }
+        ensures draft { IfOk result (λ _. IsDraft self.new) }
+        ensures held { IfOk result
+            (λ _. held_by self.new ≡ with_names (held_by self.old) (name.now ∷ [])) }
+    {
+        match known {
+            Some(number) => self.add_known(number),
+            None => self.add_site(name),
+        }
+    }
+
     // Adds the names of a row, and answers how many they are.
     fn add_names(&mut self, number: u64, text: &[u8]) -> Result<u64, ManifestError>
         requires draft { IsDraft self.old }
@@ -45,11 +96,13 @@ impl Draft {
     {
         let mut count = 0u64;
         let mut rest = text;
-        while let Some((token, after)) = next_token(rest) {
-            if !is_name_token(token) {
+        while let Some((token, after)) = name_token(rest) {
+            let known = self.names.recall(token);
+            if known.is_none() && !is_name_token(token) {
                 return Err(ManifestError::BadLine(number));
             }
-            self.add_site(token).map_err(|_| ManifestError::NoMemory)?;
+            self.add_name(token, known)
+                .map_err(|_| ManifestError::NoMemory)?;
             count += 1;
             rest = after;
         }

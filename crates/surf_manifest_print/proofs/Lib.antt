@@ -7,3 +7,4 @@ pub mod PrintLemmas
 pub mod SiteKeys
 pub mod LegendRead
 pub mod LegendBack
+pub mod ShortTexts

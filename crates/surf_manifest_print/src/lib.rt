@@ -18,6 +18,7 @@ mod room;
 mod rows;
 mod rules;
 mod settings;
+mod shorts;
 
 pub use laws::{legend_is_read, print_is_kept, print_is_read};
 pub use legend::{Legend, Place};

@@ -5,11 +5,13 @@ ghost use Rattle.surf_text.specs.Bytes.{ended, rows_of, spaced};
 ghost use Rattle.surf_manifest.specs.Grammar.{manifest_of};
 ghost use Rattle.surf_manifest.specs.WellFormed.{IsWellFormed};
 ghost use Rattle.surf_manifest_print.specs.Legends.{HasWords, IsLegend};
+ghost use Rattle.surf_manifest_print.specs.Rows.{short_texts};
 ghost use Rattle.surf_manifest_print.specs.Prints.{print_of, rule_block, state_block};
 
 use crate::legend::Legend;
 use crate::printer::Printer;
 use crate::room::{legend_room, manifest_room};
+use crate::shorts::{Short, shorts_of};
 use std::alloc::Global;
 use surf_base::NoMemory;
 use surf_lattice::Lattice;
@@ -24,12 +26,14 @@ impl Printer {
     }
 
     // Appends the block of the initial state of a manifest.
-    fn put_state_of(&mut self, manifest: &Manifest) -> Result<(), NoMemory>
+    fn put_state_of(&mut self, manifest: &Manifest, shorts: &[Short]) -> Result<(), NoMemory>
+        requires { shorts.now ≡ short_texts manifest.now.names }
         ensures { OnOk result (self.new ≡ self.old ++ ended (state_block manifest.now.text)) }
     {
         let grid = manifest.grid();
         self.put_state_block(
             manifest.names(),
+            shorts,
             manifest.start(),
             grid.width(),
             grid.height(),
@@ -37,7 +41,8 @@ impl Printer {
     }
 
     // Appends all lines of a manifest but those of a legend.
-    fn put_manifest(&mut self, manifest: &Manifest) -> Result<(), NoMemory>
+    fn put_manifest(&mut self, manifest: &Manifest, shorts: &[Short]) -> Result<(), NoMemory>
+        requires { shorts.now ≡ short_texts manifest.now.names }
         ensures text { OnOk result (self.new ≡ self.old ++ print_of manifest.now.text None) }
         ensures well_formed { IsWellFormed manifest.now.text }
     {
@@ -45,7 +50,7 @@ impl Printer {
         self.put_wrap(manifest.wrap())?;
         self.put_options(manifest.options())?;
         self.put_rules_of(manifest)?;
-        self.put_state_of(manifest)?;
+        self.put_state_of(manifest, shorts)?;
         self.put_colormap(manifest.colormap())?;
         Ok(())
     }
@@ -61,12 +66,15 @@ pub fn print_manifest(
     legend: Option<&Legend>,
 ) -> Result<Vec<u8>, NoMemory>
     requires { IfSome legend (λ l. HasWords l.now) }
-    ensures text { IfOk result (λ v. v.items ≡ print_of manifest.now.text (option_copied legend.entry)) }
-    ensures read { IfOk result (λ v. IsLegend (option_copied legend.entry) → manifest_of v.items ≡ Ok manifest.now.text) }
+    ensures text { IfOk result
+        (λ v. v.items ≡ print_of manifest.now.text (option_copied legend.entry)) }
+    ensures read { IfOk result (λ v. IsLegend (option_copied legend.entry)
+        → manifest_of v.items ≡ Ok manifest.now.text) }
 {
+    let shorts = shorts_of(alloc, manifest.names())?;
     let room = manifest_room(manifest).saturating_add(legend_room(legend));
     let mut printer = Printer::with_room(alloc, room)?;
     printer.put_legend(legend)?;
-    printer.put_manifest(manifest)?;
+    printer.put_manifest(manifest, &shorts)?;
     Ok(printer.into_bytes())
 }

@@ -51,7 +51,29 @@ fn rules_room(names: &Names, rules: &[Rule]) -> usize
     room
 }
 
-fn start_room(names: &Names, start: &[u32]) -> usize
+// Room for each of the first 256 names and a blank.
+fn name_rooms(names: &Names) -> [usize; 256] {
+    let mut rooms = [0usize; 256];
+    let count = 256.min(names.len());
+    for number in 0..count {
+        rooms[number as usize] = names.text(number).len().saturating_add(1);
+    }
+    rooms
+}
+
+// Room for rows of the first 256 names.
+fn few_room(rooms: &[usize; 256], start: &[u32]) -> usize
+    requires { NamesBelow 256 start.now }
+{
+    let mut room = 0usize;
+    for name in start {
+        room = room.saturating_add(rooms[*name as usize]);
+    }
+    room
+}
+
+// Room for rows of names.
+fn many_room(names: &Names, start: &[u32]) -> usize
     requires { NamesBelow (length names.now) start.now }
 {
     let mut room = 0usize;
@@ -61,6 +83,16 @@ fn start_room(names: &Names, start: &[u32]) -> usize
             .saturating_add(names.text(*name).len());
     }
     room
+}
+
+fn start_room(names: &Names, start: &[u32]) -> usize
+    requires { NamesBelow (length names.now) start.now }
+{
+    if names.len() <= 256 {
+        few_room(&name_rooms(names), start)
+    } else {
+        many_room(names, start)
+    }
 }
 
 fn options_room(options: &[OptionLine]) -> usize {

@@ -1,14 +1,15 @@
 //! The kinds of the sites of a drawing.
-ghost use Rattle.std.specs.Prelude.{◌≡◌, ◌+◌, ◌*◌, ◌<◌, ◌++◌, ◌∷◌, [], IfOk, OnOk, length};
+ghost use Rattle.std.specs.Prelude.{◌≡◌, ◌+◌, ◌*◌, ◌<◌, ◌++◌, ◌∷◌, [], IfOk, OnOk, get_or, length, true};
 ghost use Rattle.surf_place.specs.Drawing.{rows_of};
 ghost use Rattle.surf_place.specs.Placed.{IsPlaced, placement_of};
 ghost use Rattle.surf_route.specs.Sealed.{sealed_of};
+ghost use Rattle.surf_tiles.specs.Tiles.{sites_of};
 ghost use Rattle.surf_route.specs.Sealing.{AreKinds, line_start};
 
 use std::alloc::Global;
 use surf_base::NoMemory;
 use surf_place::{Drawing, Routed};
-use surf_tiles::{Kind, sites};
+use surf_tiles::{Heading, Kind, Ports, Tile, sites};
 
 /// The kinds of all sites, in row-major order. They stand once in memory.
 pub fn all_kinds(alloc: Global, drawing: &Drawing<Routed>) -> Result<Vec<Kind>, NoMemory>
@@ -42,6 +43,33 @@ fn put_tiles(kinds: &mut Vec<Kind>, drawing: &Drawing<Routed>, row: u32) -> Resu
     Ok(())
 }
 
+fn are_same(p: Ports, q: Ports) -> bool
+    ensures { result ≡ true → p ≡ q }
+{
+    p.north == q.north && p.east == q.east && p.south == q.south && p.west == q.west
+}
+
+// Whether two tiles are surely one. Wires and crossings often stand side by side, others seldom.
+fn is_same(a: Tile, b: Tile) -> bool
+    ensures { result ≡ true → a ≡ b }
+{
+    match (a, b) {
+        (Tile::Empty, Tile::Empty) => true,
+        (Tile::Wire(p), Tile::Wire(q)) => are_same(p, q),
+        (Tile::Cross(Heading::East), Tile::Cross(Heading::East)) => true,
+        (Tile::Cross(Heading::West), Tile::Cross(Heading::West)) => true,
+        _ => false,
+    }
+}
+
+// One of the three rows of sites of a tile.
+fn sites_in(tile: Tile, y: u32) -> [Kind; 3]
+    requires { y < 3 }
+    ensures { result ≡ get_or (sites_of tile) y [] }
+{
+    sites(tile)[y as usize]
+}
+
 // One of the three rows of sites of a row of tiles.
 fn put_line(
     kinds: &mut Vec<Kind>,
@@ -55,9 +83,15 @@ fn put_line(
     ensures { let end = line_start drawing.now row (y + 1) in
         OnOk result (AreKinds drawing.now end kinds.new.items) }
 {
+    let mut tile = Tile::Empty;
+    let mut line = sites_in(tile, y);
     for column in 0..drawing.columns() {
-        let tile = sites(drawing.tile(column, row));
-        put_sites(kinds, &tile[y as usize])?;
+        let next = drawing.tile(column, row);
+        if !is_same(next, tile) {
+            tile = next;
+            line = sites_in(tile, y);
+        }
+        put_sites(kinds, &line)?;
     }
     Ok(())
 }

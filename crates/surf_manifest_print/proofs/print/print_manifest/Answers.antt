@@ -7,7 +7,7 @@ use Rattle.surf_manifest_print.proofs.PrintLemmas.{then_lines}
 use Rattle.surf_manifest_print.proofs.Whole.{reads_print}
 use Rattle.surf_manifest_print.proofs.print.print_manifest.Goals as goal
 
-printed : (c : goal.After-into_bytes) → c.into_bytes.result.items ≡ print_of c.args.manifest.now.text (option_copied c.args.legend)
+printed : (c : goal.After-drop-shorts-2) → c.into_bytes.result.items ≡ print_of c.args.manifest.now.text (option_copied c.args.legend)
 printed c =
     let legend = legend_lines (option_copied c.args.legend) in
     let empty : c.in_ok-printer.printer ≡ [] = search rules in

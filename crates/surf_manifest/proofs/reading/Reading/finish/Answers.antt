@@ -12,8 +12,8 @@ invariant_of-result c =
     let none : end_fault s s.held ≡ None = c.in_default.ensures in
     let w : IsWellFormed m = c.requires.whole m (ap (λ o. unless_fault o (Ok m)) none) in
     record {
-      well_formed = rw c.colormap.ensures w;
-      texts = c.requires.draft.texts;
-      rules = c.requires.draft.rules;
-      start = c.requires.draft.start;
+      well_formed = rw (c.colormap.ensures, c.into_names.ensures) w;
+      texts = rw c.into_names.ensures c.requires.draft.texts;
+      rules = rw c.into_names.ensures c.requires.draft.rules;
+      start = rw c.into_names.ensures c.requires.draft.start;
     }
