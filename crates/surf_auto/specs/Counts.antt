@@ -15,7 +15,9 @@ pub record Counts : Type 0 where
 
 -- a live cell stays by `survival` and a dead one becomes live by `birth`
 abbrev pub looked_up : Counts → ℕ → ℕ → ℕ
-looked_up C own count = if (if own == 1 then slice_index_or C.survival count false else slice_index_or C.birth count false) then 1 else 0
+looked_up C own count =
+    if (if own == 1 then slice_index_or C.survival count false
+    else slice_index_or C.birth count false) then 1 else 0
 
 -- the next state, by the states of the neighbours
 abbrev pub next_by_count : Counts → ℕ → List ℕ → ℕ

@@ -1,4 +1,5 @@
--- Local rules: what a cell makes of its own state and of the states of its neighbours, one phase after another.
+-- Local rules: what a cell makes of its own state and of the states of its neighbours, one phase
+-- after another.
 use Rattle.std.specs.Prelude.{◌≡◌, ℕ, zero, suc, ◌+◌, ◌-◌, ◌*◌, ◌<◌, ◌≤◌, Bool, true, ◌||◌, ◌==◌, if◌then◌else◌}
 
 pub record LocalRule : Type 0 where
@@ -38,15 +39,19 @@ pub record IsLocal (R : LocalRule) : Type 0 where
   pub some_accs : (f r : ℕ) → f < R.phases → r ≤ R.degree → 1 ≤ R.accs f r
   pub few_accs : (f r : ℕ) → f < R.phases → r ≤ R.degree → R.accs f r ≤ 2048
   pub start_within : (f : ℕ) → f < R.phases → R.start f < R.accs f 0
-  pub add_within : (f a i s : ℕ) → f < R.phases → a < R.accs f i → i < R.degree → s < R.states f → R.add f a i s < R.accs f (suc i)
-  pub finish_within : (f s a : ℕ) → f < R.phases → s < R.states f → a < R.accs f R.degree → R.finish f s a < R.states (following R.phases f)
+  pub add_within : (f a i s : ℕ) → f < R.phases → a < R.accs f i → i < R.degree → s < R.states f →
+      R.add f a i s < R.accs f (suc i)
+  pub finish_within : (f s a : ℕ) → f < R.phases → s < R.states f → a < R.accs f R.degree →
+      R.finish f s a < R.states (following R.phases f)
 
--- what is gathered in phase f over the first n directions, where `seen` says which state stands in each
+-- what is gathered in phase f over the first n directions, where `seen` says which state stands in
+-- each
 abbrev pub gathered : LocalRule → ℕ → (ℕ → ℕ) → ℕ → ℕ
 gathered R f seen zero = R.start f
 gathered R f seen (suc n) = R.add f (gathered R f seen n) n (seen n)
 
--- ---- the number of rules of a colony whose cells keep in step by reading their neighbours one at a time
+-- ---- the number of rules of a colony whose cells keep in step by reading their neighbours one at
+-- a time
 
 abbrev pub sum_below : (ℕ → ℕ) → ℕ → ℕ
 sum_below f zero = 0
@@ -56,7 +61,8 @@ sum_below f (suc n) = sum_below f n + f n
 abbrev pub place_count : LocalRule → ℕ → ℕ
 place_count R f = sum_below (R.accs f) R.degree
 
--- the cells of one colour and one generation: a state, the state before it, and how far the cell has read
+-- the cells of one colour and one generation: a state, the state before it, and how far the cell
+-- has read
 abbrev pub code_count : LocalRule → ℕ → ℕ
 code_count R f = R.states f * R.states (preceding R.phases f) * place_count R f
 

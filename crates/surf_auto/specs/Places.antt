@@ -15,8 +15,11 @@ beside width place i = place + shift_x i + width * shift_y i - suc width
 
 -- the next state, where each neighbour stands at the place in its direction
 abbrev pub next_by_places : LocalRule → ℕ → List ℕ → ℕ → ℕ → ℕ
-next_by_places R f cells width place = R.finish f (slice_index cells place) (gathered R f (λ i. slice_index cells (beside width place i)) R.degree)
+next_by_places R f cells width place =
+    R.finish f (slice_index cells place)
+    (gathered R f (λ i. slice_index cells (beside width place i)) R.degree)
 
 -- the places below n hold the states after phase f
 abbrev pub IsNextBelow : Universe → ℕ → List ℕ → ℕ → Type 0
-IsNextBelow U f next n = (k : ℕ) → k < n → slice_index next k ≡ next_state U f (state_at U) (site_at U.grid k)
+IsNextBelow U f next n =
+    (k : ℕ) → k < n → slice_index next k ≡ next_state U f (state_at U) (site_at U.grid k)

@@ -5,7 +5,8 @@ use Rattle.surf_lattice.specs.declared.site.GridKind.{GridKind}
 use Rattle.surf_lattice.specs.Grids.{Grid, IsGrid, degree, directions, is_coloured, neighbour, place}
 use Rattle.surf_auto.specs.Locals.{LocalRule, IsLocal, gathered}
 
--- the cells of a grid in row-major order; all beyond the grid keeps the edge state, and nothing lies beyond a grid whose sides are joined
+-- the cells of a grid in row-major order; all beyond the grid keeps the edge state, and nothing
+-- lies beyond a grid whose sides are joined
 pub record Universe : Type 0 where
   pub grid : Grid
   pub rule : LocalRule
@@ -55,7 +56,8 @@ seen U state s i = seen_at U.edge state (neighbour U.grid s i)
 
 -- the state of the cell at s after phase f, where `state` says what all cells show before it
 abbrev pub next_state : Universe → ℕ → (Site → ℕ) → Site → ℕ
-next_state U f state s = U.rule.finish f (state s) (gathered U.rule f (seen U state s) (degree U.grid.kind))
+next_state U f state s =
+    U.rule.finish f (state s) (gathered U.rule f (seen U state s) (degree U.grid.kind))
 
 -- what the cell at s shows after g phases, in which all cells take their next state at once
 abbrev pub phase_sync : Universe → ℕ → Site → ℕ

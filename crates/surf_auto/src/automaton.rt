@@ -1,3 +1,4 @@
+// Automata: cells in a box or on a torus, and their steps.
 ghost use Rattle.std.specs.Prelude.{◌≡◌, IfOk, OnOk, OnErr, length, map};
 ghost use Rattle.surf_lattice.specs.AnyGrid.{grid_of};
 ghost use Rattle.surf_lattice.specs.Grids.{sites};

@@ -1,3 +1,4 @@
+// Local rules by the number of live neighbours.
 ghost use Rattle.std.specs.Prelude.{◌≡◌, true};
 ghost use Rattle.surf_auto.specs.Locals.{is_degree};
 ghost use Rattle.surf_auto.specs.Counts.{Counts, count_rule};

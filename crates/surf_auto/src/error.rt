@@ -1,3 +1,4 @@
+// Why a text is no automaton.
 use thiserror::Error;
 
 /// Why a text is no automaton: the first faulty line, counted from 1, or the number that was found.

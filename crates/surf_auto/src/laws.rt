@@ -1,3 +1,4 @@
+// What holds of local rules.
 ghost use Rattle.surf_auto.specs.Laws.{CountsNeighbours, SumsNeighbours, StepsByCounts, StepsBySums, OnePhaseRules, SquareCountRules, HexCountRules};
 
 /// The laws of local rules by counts and by sums, and of the number of rules.

@@ -1,3 +1,4 @@
+// The trait of local rules.
 ghost use Rattle.std.specs.Prelude.{◌≡◌, ◌<◌, ◌≤◌};
 ghost use Rattle.surf_auto.specs.Locals.{LocalRule, IsLocal};
 

@@ -1,3 +1,4 @@
+// Local rules by the sum of the neighbours' weights.
 ghost use Rattle.std.specs.Prelude.{◌≡◌};
 ghost use Rattle.surf_auto.specs.Tables.{IsTable, Table, greatest, table_rule};
 
@@ -19,9 +20,12 @@ impl Model for TableLocal {
 
     ghost Value = { Table };
 
-    ghost view = { λ s. record { degree = s.degree; weights = s.weights.items; next = s.next.items } };
+    ghost view = { λ s.
+        record { degree = s.degree; weights = s.weights.items; next = s.next.items } };
 
-    ghost invariant = { λ s. IsTable (record { degree = s.degree; weights = s.weights.items; next = s.next.items }) × (s.heaviest ≡ greatest s.weights.items) };
+    ghost invariant = { λ s.
+        IsTable (record { degree = s.degree; weights = s.weights.items; next = s.next.items })
+        × (s.heaviest ≡ greatest s.weights.items) };
 }
 
 impl TableLocal {

@@ -19,7 +19,8 @@ pub record Sent (old new : Option (List ℕ)) (held left text : List ℕ) : Type
   pub appended : Appends old new sent
   pub all : sent ++ left ≡ held ++ text
 
--- the sink failed: of what was held and the text some bytes had been sent, and a front of the rest was sent then; of the rest all is left but the end of the text
+-- the sink failed: of what was held and the text some bytes had been sent, and a front of the rest
+-- was sent then; of the rest all is left but the end of the text
 pub record Cut (old new : Option (List ℕ)) (held left text : List ℕ) : Type 0 where
   pub sent : List ℕ
   pub dropped : List ℕ
@@ -30,7 +31,8 @@ pub record Cut (old new : Option (List ℕ)) (held left text : List ℕ) : Type 
   pub of_text : length dropped ≤ length text
 
 -- the text was taken whole, or the sink failed on the way
-pub record Emits {T E : Type 0} (old new : Outlet) (text : List ℕ) (result : Result T E) : Type 0 where
+pub record Emits {T E : Type 0} (old new : Outlet) (text : List ℕ) (result : Result T E) :
+    Type 0 where
   pub whole : OnOk result (Sent old.written new.written old.held new.held text)
   pub cut : OnErr result (Cut old.written new.written old.held new.held text)
   pub later : old.faults ≤ new.faults

@@ -25,7 +25,8 @@ pub record RowOf : Type 0 where
 
 abbrev pub row_with : List ℕ → Option Bool → Option RowOf
 row_with literals None = None
-row_with literals (Some output) = Some (record { literals = map literal_of literals; output = output })
+row_with literals (Some output) =
+    Some (record { literals = map literal_of literals; output = output })
 
 -- a row of no inputs is its output
 abbrev pub constant_row : List (List ℕ) → Option RowOf
@@ -37,7 +38,8 @@ constant_row (t ∷ u ∷ ts) = None
 abbrev pub signed_row : ℕ → List (List ℕ) → Option RowOf
 signed_row inputs [] = None
 signed_row inputs (t ∷ []) = None
-signed_row inputs (t ∷ u ∷ []) = if list_all is_literal t && (length t == inputs) then row_with t (bit_of u) else None
+signed_row inputs (t ∷ u ∷ []) =
+    if list_all is_literal t && (length t == inputs) then row_with t (bit_of u) else None
 signed_row inputs (t ∷ u ∷ v ∷ ts) = None
 
 -- the row that tokens spell in a cover of so many inputs

@@ -20,7 +20,8 @@ pub record EquationBelow (n : ℕ) (q : EquationOf ℕ) : Type 0 where
   pub inputs : All (λ k. k < n) q.inputs
 
 abbrev pub numbered_parts : Draft → PartsOf ℕ
-numbered_parts d = record { inputs = d.inputs.items; outputs = d.outputs.items; equations = d.equations.items }
+numbered_parts d =
+    record { inputs = d.inputs.items; outputs = d.outputs.items; equations = d.equations.items }
 
 abbrev pub held_by : Draft → Held
 held_by d = record { cost = d.cost; parts = parts_by (text_of d.names) (numbered_parts d) }

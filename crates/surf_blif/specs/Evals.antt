@@ -5,6 +5,8 @@ use Rattle.surf_logic.specs.Equations.{Numbered}
 use Rattle.surf_logic.specs.Answers.{EvalOf, IsEval}
 use Rattle.surf_blif.specs.Blifs.{IsRead, parts_of}
 
--- what a text's circuit evaluates to are the text's outputs: there is exactly one assignment that has these bits at the inputs and solves the text's equations, and it gives this answer
+-- what a text's circuit evaluates to are the text's outputs: there is exactly one assignment that
+-- has these bits at the inputs and solves the text's equations, and it gives this answer
 abbrev pub EvaluatesText : Type 0
-EvaluatesText = (bytes : List ℕ) (c : Numbered) (bits answer : List Bool) → IsRead bytes c → IsEval c bits answer → EvalOf bytes_eq (parts_of bytes) bits answer
+EvaluatesText = (bytes : List ℕ) (c : Numbered) (bits answer : List Bool) → IsRead bytes c →
+    IsEval c bits answer → EvalOf bytes_eq (parts_of bytes) bits answer

@@ -17,7 +17,8 @@ pub record Placed : Type 0 where
 abbrev pub placed : Logical → Placed
 placed l = record { number = l.number; line = line_of l.text }
 
--- the model goes on behind a line, stops before it, or ends with it: .end ends the model, and a .model stops it that comes after other lines with tokens
+-- the model goes on behind a line, stops before it, or ends with it: .end ends the model, and a
+-- .model stops it that comes after other lines with tokens
 abbrev pub extent : Bool → Line → Extent
 extent begun (Model stand) = if begun then Stops else GoesOn
 extent begun (End stand) = Ends
@@ -78,7 +79,8 @@ cover_after c (Inputs ts) = None
 cover_after c (Outputs ts) = None
 cover_after c (Other t) = None
 
--- the cover that rows may follow: that of the last .names, with nothing but rows and skipped lines behind it. The lines are from the nearest to the first
+-- the cover that rows may follow: that of the last .names, with nothing but rows and skipped lines
+-- behind it. The lines are from the nearest to the first
 abbrev pub cover_above : List Placed → Option Cover
 cover_above [] = None
 cover_above (l ∷ above) = cover_after (cover_above above) l.line
@@ -128,7 +130,8 @@ or_fault (Some f) next = Some f
 -- the first fault of lines, below those above them
 abbrev pub fault_below : List Placed → List Placed → Option TextFault
 fault_below above [] = None
-fault_below above (l ∷ ls) = or_fault (line_fault (cover_above above) l.number l.line) (fault_below (l ∷ above) ls)
+fault_below above (l ∷ ls) =
+    or_fault (line_fault (cover_above above) l.number l.line) (fault_below (l ∷ above) ls)
 
 abbrev pub inputs_in : Placed → List (List ℕ)
 inputs_in l = declared l.line
@@ -162,7 +165,8 @@ abbrev pub onto_rows : Option RowOf → List RowOf → List RowOf
 onto_rows None rows = rows
 onto_rows (Some r) rows = r ∷ rows
 
--- the rows of a cover of so many inputs, with nothing but skipped lines between them, at the front of these lines
+-- the rows of a cover of so many inputs, with nothing but skipped lines between them, at the front
+-- of these lines
 abbrev pub rows_in : ℕ → List Placed → List RowOf
 rows_in inputs [] = []
 rows_in inputs (l ∷ ls) = rows l.line (rows_in inputs ls)
@@ -195,4 +199,9 @@ equations_in (l ∷ ls) = equation l.line ++ equations_in ls
     equation (Row ts) = []
 
 abbrev pub parts_in : List Placed → PartsOf (List ℕ)
-parts_in ls = record { inputs = flat_map inputs_in ls; outputs = flat_map outputs_in ls; equations = equations_in ls }
+parts_in ls =
+    record {
+      inputs = flat_map inputs_in ls;
+      outputs = flat_map outputs_in ls;
+      equations = equations_in ls;
+    }

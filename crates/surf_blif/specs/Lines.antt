@@ -4,7 +4,9 @@ use Rattle.std.specs.List.{list_all}
 use Rattle.std.specs.Str.{bytes_eq}
 use Rattle.surf_text.specs.Bytes.{is_blank, is_plain, tokens_of}
 
--- a line without tokens; a line .model or .end, and whether its bytes may stand in a text; a line with a byte that may not; declared inputs or outputs; the signals of a .names; another directive; a row of a cover
+-- a line without tokens; a line .model or .end, and whether its bytes may stand in a text; a line
+-- with a byte that may not; declared inputs or outputs; the signals of a .names; another directive;
+-- a row of a cover
 pub data Line : Type 0 where
   Skipped : Line
   Model : Bool → Line

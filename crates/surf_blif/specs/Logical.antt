@@ -1,4 +1,5 @@
--- The logical lines of a text: comments and the blanks at the ends of lines are cut away, and a last \ joins the next line.
+-- The logical lines of a text: comments and the blanks at the ends of lines are cut away, and a
+-- last \ joins the next line.
 use Rattle.std.specs.Prelude.{ℕ, ◌+◌, Bool, ◌==◌, List, [], ◌∷◌, ◌++◌, Option, Some, None, if◌then◌else◌}
 use Rattle.surf_text.specs.Bytes.{before, lines_of, trimmed}
 
@@ -30,7 +31,8 @@ pub record Logical : Type 0 where
 abbrev pub part_of : List ℕ → List ℕ
 part_of line = front_of (cut line) ++ 32 ∷ []
 
--- the logical lines of physical lines, the first of which has this number, where so_far is the line that goes on in them, if any
+-- the logical lines of physical lines, the first of which has this number, where so_far is the line
+-- that goes on in them, if any
 abbrev pub joined_from : ℕ → Option Logical → List (List ℕ) → List Logical
 joined_from n None [] = []
 joined_from n (Some so_far) [] = so_far ∷ []
@@ -40,8 +42,10 @@ joined_from n None (l ∷ ls) =
     else (record { number = n; text = cut l }) ∷ joined_from (n + 1) None ls
 joined_from n (Some so_far) (l ∷ ls) =
     if goes_on (cut l)
-    then joined_from (n + 1) (Some (record { number = so_far.number; text = so_far.text ++ part_of l })) ls
-    else (record { number = so_far.number; text = so_far.text ++ cut l }) ∷ joined_from (n + 1) None ls
+    then joined_from (n + 1)
+    (Some (record { number = so_far.number; text = so_far.text ++ part_of l })) ls
+    else (record { number = so_far.number; text = so_far.text ++ cut l })
+    ∷ joined_from (n + 1) None ls
 
 abbrev pub logical_lines : List ℕ → List Logical
 logical_lines bytes = joined_from 1 None (lines_of bytes)

@@ -1,4 +1,5 @@
--- What a reader keeps of the lines so far: their cost, and what they declare while the cost is within the limit.
+-- What a reader keeps of the lines so far: their cost, and what they declare while the cost is
+-- within the limit.
 use Rattle.std.specs.Prelude.{ℕ, ◌+◌, Bool, false, nat_le, List, [], ◌∷◌, ◌++◌, length, Option, Some, None, Result, Ok, Err, if◌then◌else◌}
 use Rattle.surf_logic.specs.declared.equation.Literal.{Literal}
 use Rattle.surf_logic.specs.Equations.{EquationOf, PartsOf, row_cost}
@@ -15,7 +16,8 @@ pub record Held : Type 0 where
 
 -- so much more cost, and these parts in place of those held where the cost is within the limit
 abbrev pub keeping : Held → ℕ → PartsOf (List ℕ) → Held
-keeping h more p = record { cost = h.cost + more; parts = if nat_le (h.cost + more) 1000 then p else h.parts }
+keeping h more p =
+    record { cost = h.cost + more; parts = if nat_le (h.cost + more) 1000 then p else h.parts }
 
 abbrev pub with_inputs : PartsOf (List ℕ) → List (List ℕ) → PartsOf (List ℕ)
 with_inputs p ts = record { inputs = p.inputs ++ ts; outputs = p.outputs; equations = p.equations }
@@ -24,7 +26,12 @@ abbrev pub with_outputs : PartsOf (List ℕ) → List (List ℕ) → PartsOf (Li
 with_outputs p ts = record { inputs = p.inputs; outputs = p.outputs ++ ts; equations = p.equations }
 
 abbrev pub with_equation : PartsOf (List ℕ) → List (List ℕ) → PartsOf (List ℕ)
-with_equation p ts = record { inputs = p.inputs; outputs = p.outputs; equations = p.equations ++ equation_of ts [] ∷ [] }
+with_equation p ts =
+    record {
+      inputs = p.inputs;
+      outputs = p.outputs;
+      equations = p.equations ++ equation_of ts [] ∷ [];
+    }
 
 -- f on the last of a list
 abbrev pub on_last : {X : Type 0} → (X → X) → List X → List X
@@ -34,14 +41,21 @@ on_last f (x ∷ y ∷ ys) = x ∷ on_last f (y ∷ ys)
 
 -- a row more; the first row gives the polarity
 abbrev pub add_row : {N : Type 0} → RowOf → EquationOf N → EquationOf N
-add_row r q = record { output = q.output; inputs = q.inputs; rows = q.rows ++ r.literals ∷ []; polarity = polarity q.rows }
+add_row r q =
+    record {
+      output = q.output;
+      inputs = q.inputs;
+      rows = q.rows ++ r.literals ∷ [];
+      polarity = polarity q.rows;
+    }
   where
     polarity : List (List Literal) → Bool
     polarity [] = r.output
     polarity (row ∷ rows) = q.polarity
 
 abbrev pub parts_with_row : PartsOf (List ℕ) → RowOf → PartsOf (List ℕ)
-parts_with_row p r = record { inputs = p.inputs; outputs = p.outputs; equations = on_last (add_row r) p.equations }
+parts_with_row p r =
+    record { inputs = p.inputs; outputs = p.outputs; equations = on_last (add_row r) p.equations }
 
 abbrev pub with_row : Held → RowOf → Held
 with_row h r = keeping h (row_cost r.literals) (parts_with_row h.parts r)
@@ -73,7 +87,12 @@ pub record Reached : Type 0 where
   pub held : Held
 
 abbrev pub after_line : Reached → Line → Reached
-after_line s l = record { begun = begins s.begun l; cover = cover_after s.cover l; held = held_after s.cover s.held l }
+after_line s l =
+    record {
+      begun = begins s.begun l;
+      cover = cover_after s.cover l;
+      held = held_after s.cover s.held l;
+    }
 
 abbrev pub unless_fault : {X : Type 0} → Option TextFault → Result X TextFault → Result X TextFault
 unless_fault None r = r

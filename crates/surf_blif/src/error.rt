@@ -1,3 +1,4 @@
+// Why a text is no circuit.
 use surf_base::Text;
 use surf_logic::CircuitError;
 use thiserror::Error;

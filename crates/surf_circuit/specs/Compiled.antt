@@ -12,19 +12,23 @@ use Rattle.surf_manifest.specs.Grammar.{ManifestText}
 use Rattle.surf_manifest_print.specs.Legends.{LegendText}
 use Rattle.surf_circuit.specs.Surfaces.{layout_system, layout_legend, plain_manifest}
 
--- the layout of a netlist whose nets are packed into lanes. The law of packing leaves one choice of lanes
+-- the layout of a netlist whose nets are packed into lanes. The law of packing leaves one choice of
+-- lanes
 pub record IsDrawn (N : NetlistOf) (L : Plan) : Type 0 where
   pub lanes : LanesOf
   pub law : IsPacked (net_spans N) lanes
   pub drawn : L ≡ sealed N (packed lanes)
 
--- the surface and the legend of a circuit: those of the layout of its gates, with the names of its inputs and outputs
+-- the surface and the legend of a circuit: those of the layout of its gates, with the names of its
+-- inputs and outputs
 pub record IsSurfaceOf (c : Numbered) (m : ManifestText) (l : LegendText) : Type 0 where
   pub layout : Plan
   pub drawn : IsDrawn (gates_of c.parts) layout
   pub manifest : m ≡ plain_manifest (layout_system layout)
-  pub legend : l ≡ layout_legend (map (text_of c.names) c.parts.inputs) (map (text_of c.names) c.parts.outputs) layout
+  pub legend : l ≡ layout_legend (map (text_of c.names) c.parts.inputs)
+      (map (text_of c.names) c.parts.outputs) layout
 
 -- a circuit has one surface and one legend
 abbrev pub SurfaceIsOne : Type 0
-SurfaceIsOne = (c : Numbered) (m m' : ManifestText) (l l' : LegendText) → IsSurfaceOf c m l → IsSurfaceOf c m' l' → (m ≡ m') × (l ≡ l')
+SurfaceIsOne = (c : Numbered) (m m' : ManifestText) (l l' : LegendText) → IsSurfaceOf c m l →
+    IsSurfaceOf c m' l' → (m ≡ m') × (l ≡ l')

@@ -15,13 +15,15 @@ use Rattle.surf_circuit.specs.declared.inputs.SetError.TheVariants.{Length, NotI
 abbrev pub bit_name : Bool → List ℕ
 bit_name b = digit b ∷ []
 
--- the configuration with the name of each bit at the site of its place, and every other site as it was
+-- the configuration with the name of each bit at the site of its place, and every other site as it
+-- was
 abbrev pub with_bits : Grid → List (List ℕ) → List Place → List Bool → List (List ℕ)
 with_bits g c places bits = settling.with_inputs g c (map (λ p. p.site) places) bits
 
 -- the system with these bits at the legend's inputs, in order
 abbrev pub with_inputs : System (List ℕ) → LegendText → List Bool → System (List ℕ)
-with_inputs S l bits = record { surface = S.surface; start = with_bits S.surface.grid S.start l.inputs bits }
+with_inputs S l bits =
+    record { surface = S.surface; start = with_bits S.surface.grid S.start l.inputs bits }
 
 -- the manifest of that system
 abbrev pub with_system : ManifestText → System (List ℕ) → ManifestText
@@ -35,7 +37,8 @@ is_text (Some name) t = bytes_eq name t
 abbrev pub is_unset : System (List ℕ) → Site → Bool
 is_unset S s =
     nat_lt s.x S.surface.grid.width
-    && (nat_lt s.y S.surface.grid.height && is_text (slice_get S.start (place S.surface.grid s)) (codes "?"))
+    && (nat_lt s.y S.surface.grid.height && is_text (slice_get S.start (place S.surface.grid s))
+    (codes "?"))
 
 -- the first of the places that is no unset input
 abbrev pub first_set : System (List ℕ) → List Place → Option SetError

@@ -34,7 +34,8 @@ AreNumbers texts (n ∷ ns) (k ∷ ks) = (slice_get texts n ≡ Some (name_of k)
 
 -- each kind has the number of its name
 abbrev pub NumbersAll : List (List ℕ) → List ℕ → Type 0
-NumbersAll texts numbers = (k : Kind) → slice_get texts (slice_index_or numbers (kind_index k) 0) ≡ Some (name_of k)
+NumbersAll texts numbers =
+    (k : Kind) → slice_get texts (slice_index_or numbers (kind_index k) 0) ≡ Some (name_of k)
 
 -- every text is the name of a state
 abbrev pub AreStates : List (List ℕ) → Type 0

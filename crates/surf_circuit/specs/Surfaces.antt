@@ -41,7 +41,8 @@ layout_legend inputs outputs L = record {
   events = events_of L;
 }
 
--- a circuit over numbers is one over texts: it has the same inputs and outputs, and evaluates to the same
+-- a circuit over numbers is one over texts: it has the same inputs and outputs, and evaluates to
+-- the same
 pub record IsSpelled (B : PartsOf (List ℕ)) (c : Numbered) : Type 0 where
   pub inputs : map (text_of c.names) c.parts.inputs ≡ B.inputs
   pub outputs : map (text_of c.names) c.parts.outputs ≡ B.outputs
@@ -55,16 +56,19 @@ pub record Decomposes (N : NetlistOf) (c : Numbered) : Type 0 where
 
 -- the surface of a layout computes the circuit of its netlist
 abbrev pub LayoutsCompute : Type 0
-LayoutsCompute = (c : Numbered) (B : PartsOf (List ℕ)) (L : Plan) → IsSpelled B c → Decomposes L.netlist c → IsLayout L → SettlesAlways L →
+LayoutsCompute = (c : Numbered) (B : PartsOf (List ℕ)) (L : Plan) → IsSpelled B c →
+    Decomposes L.netlist c → IsLayout L → SettlesAlways L →
     CircuitHolds B (layout_system L) (layout_legend B.inputs B.outputs L)
 
 -- the inputs of a surface of a circuit can be set to as many bits as there are inputs
 abbrev pub CircuitsAreSet : Type 0
-CircuitsAreSet = (B : PartsOf (List ℕ)) (S : System (List ℕ)) (l : LegendText) (bits : List Bool) → CircuitHolds B S l → length bits ≡ length B.inputs → set_fault S l bits ≡ None
+CircuitsAreSet = (B : PartsOf (List ℕ)) (S : System (List ℕ)) (l : LegendText) (bits : List Bool) →
+    CircuitHolds B S l → length bits ≡ length B.inputs → set_fault S l bits ≡ None
 
 -- a manifest whose inputs are set is well formed
 abbrev pub SetsKeepForm : Type 0
-SetsKeepForm = (m : ManifestText) (l : LegendText) (bits : List Bool) → IsWellFormed m → IsWellFormed (with_system m (with_inputs m.system l bits))
+SetsKeepForm = (m : ManifestText) (l : LegendText) (bits : List Bool) → IsWellFormed m →
+    IsWellFormed (with_system m (with_inputs m.system l bits))
 
 -- the names of the inputs and outputs are tokens of bytes 33 to 126
 pub record AreWords (B : PartsOf (List ℕ)) : Type 0 where

@@ -1,7 +1,7 @@
 -- The colony of an automaton is a colony, and its board shows what the box does.
 use Rattle.std.specs.Prelude.{if◌then◌else◌, ◌&&◌, nat_lt, nat_le, slice_get}
 use Rattle.std.specs.Option.{option_map}
-use Rattle.std.proofs.Common.{◌≡◌, ℕ, zero, suc, ◌+◌, ◌-◌, ◌*◌, ◌%◌, ◌<◌, ◌≤◌, Bool, true, false, map, Option, Some, None, sym, refl, ap, ◌∙◌, subst, inl, inr, arith}
+use Rattle.std.proofs.Common.{◌≡◌, ℕ, zero, suc, ◌+◌, ◌-◌, ◌*◌, ◌%◌, ◌<◌, ◌≤◌, Bool, true, false, Option, Some, None, sym, refl, ap, ◌∙◌, subst, inl, inr, arith}
 use Rattle.std.proofs.lemmas.Bool.{cases_Bool, lt-ltb, le-leb}
 use Rattle.std.proofs.lemmas.Bool.Decides.{nat_tests}
 use Rattle.std.proofs.lemmas.List.{length-map}
@@ -19,7 +19,7 @@ use Rattle.surf_sync.specs.Codes.{Mark, WholeBy, protocol}
 use Rattle.surf_sync.specs.Codes.Mark.{Frame, Cell}
 use Rattle.surf_sync.proofs.Listed.{holds_reads}
 use Rattle.surf_colony.specs.Colonies.{border, framed, onto, back, in_box, first_mark, colony_of, StartsWithin}
-use Rattle.surf_colony.proofs.Plans.{Board, IsBoard, Plan, IsPlan, IsColony, first_code, seen_by, shown_after}
+use Rattle.surf_colony.proofs.Plans.{IsBoard, Plan, IsPlan, IsColony, first_code, seen_by, shown_after}
 use Rattle.surf_colony.proofs.Boards.{InBox, IsBox, board_of, box_from, inside_of, place_or, site-place, place-site, Next, next_of, surface_next, cell_in_box, is_board}
 
 abbrev pub plan_of : Universe → Option ℕ → Plan

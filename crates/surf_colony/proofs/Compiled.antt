@@ -2,11 +2,12 @@
 use Rattle.std.specs.Prelude.{slice_get, get_or}
 use Rattle.std.specs.List.{flat_map, list_all}
 use Rattle.std.specs.Option.{option_map}
-use Rattle.std.proofs.Common.{◌≡◌, ℕ, zero, suc, ◌+◌, ◌*◌, ◌/◌, ◌^◌, ◌<◌, ◌≤◌, Bool, List, [], ◌∷◌, ◌++◌, map, length, length-append, Option, Some, None, All, IfSome, true, false, sym, refl, ap, ◌∙◌, subst, inl, inr, arith}
+use Rattle.std.proofs.Common.{◌≡◌, ℕ, zero, suc, ◌+◌, ◌*◌, ◌/◌, ◌<◌, ◌≤◌, Bool, List, [], ◌∷◌, map, length, length-append, Option, Some, None, Result, IfOk, All, IfSome, true, false, sym, refl, ap, ◌∙◌, subst, inl, inr, arith}
 use Rattle.std.proofs.lemmas.List.Elements.{All-nil, All-cons}
 use Rattle.std.proofs.lemmas.List.{length-map}
 use Rattle.std.proofs.lemmas.Nat.{div-mul-add, mul-le}
 use Rattle.std.proofs.lemmas.Option.{slice_get-get_or, slice_get_within}
+use Rattle.std.proofs.lemmas.Result.{IfOk-weaker}
 use Rattle.surf_lattice.specs.Grids.{Grid, sites}
 use Rattle.surf_rules.specs.Names.{text_of, with_text}
 use Rattle.surf_rules.specs.declared.rule.Rule.{Rule}
@@ -33,10 +34,11 @@ use Rattle.surf_sync.proofs.Moved.{all_spelled, frame_length}
 use Rattle.surf_sync.proofs.Numbered.{count_is}
 use Rattle.surf_world.proofs.Places.{sites_length}
 use Rattle.surf_colony.specs.Colonies.{StartsWithin, border, first_mark, framed, printed}
-use Rattle.surf_colony.specs.InStep.{IsLast}
+use Rattle.surf_colony.specs.InStep.{IsLast, KeepsInStep}
+use Rattle.surf_colony.specs.Parts.{AreParts}
 use Rattle.surf_colony.proofs.Built.{plan_of}
 use Rattle.surf_colony.proofs.Plans.{protocol_of}
-use Rattle.surf_colony.proofs.Printed.{mark_small, whole}
+use Rattle.surf_colony.proofs.Printed.{mark_small, printed_synchrony, whole}
 use Rattle.surf_colony.proofs.Starts.{mark_name}
 
 -- ---- texts that keep their numbers
@@ -167,16 +169,9 @@ any_edge P Q a b (Cell c) h = subst (λ l. IsCode Q.rule l c) b (subst (λ R. Is
 
 -- ---- what a colony's names and rules are
 
-pub record Compiles (names : List (List ℕ)) (rules : List Rule) : Type 0 where
-  pub texts : list_all is_name names ≡ true
-  pub room : length names ≤ 2147483648
-  pub below : RulesBelow (length names) rules
-  pub rates : All (λ r. r.rate ≤ 1000000000000) rules
-  pub few : length rules ≤ 1048576
-
-pub compiles : (U : Universe) (last : Option ℕ) → IsUniverse U → StartsWithin U → IsLast last U.rule.phases → 0 < turns_by last U.rule.phases → rule_count_in (turns_by last U.rule.phases) U.rule ≤ 1048576 →
-    (names : List (List ℕ)) (rules : List Rule) → names ≡ with_texts [] (map spell (marks_of (protocol U.rule 0 last))) → Say names rules (sync_rules (protocol U.rule U.edge last)) → Compiles names rules
-compiles U last is within ok turns small names rules named say =
+pub are_parts : (U : Universe) (last : Option ℕ) → IsUniverse U → StartsWithin U → IsLast last U.rule.phases → 0 < turns_by last U.rule.phases → rule_count_in (turns_by last U.rule.phases) U.rule ≤ 1048576 →
+    (names : List (List ℕ)) (rules : List Rule) → names ≡ with_texts [] (map spell (marks_of (protocol U.rule 0 last))) → Say names rules (sync_rules (protocol U.rule U.edge last)) → AreParts names rules
+are_parts U last is within ok turns small names rules named say =
     let P : Protocol = protocol U.rule U.edge last in
     let N : Protocol = protocol U.rule 0 last in
     let ts : List (List ℕ) = map spell (marks_of N) in
@@ -207,6 +202,17 @@ system_is U last names grown rules start grid keeps on name say =
     let p = placed grown start (map (λ s. spell (first_mark U s)) (sites (framed U.grid))) name in
     let q : map (text_of grown) start ≡ map spell (map (first_mark U) (sites (framed U.grid))) = p.named ∙ sym (map_map spell (first_mark U) (sites (framed U.grid))) in
     rw (on, s.named, q) refl
+
+-- ---- what is made of them, with a last generation or without
+
+pub colony_in : {X E : Type 0} (r : Result X E) (system : X → systems.System (List ℕ)) (U : Universe) (last : Option ℕ) (names : List (List ℕ)) (rules : List Rule) →
+    IfOk r (λ m. (l : Option ℕ) → Say names rules (sync_rules (protocol U.rule U.edge l)) → system m ≡ printed U l) → Say names rules (sync_rules (protocol U.rule U.edge last)) → IfOk r (λ m. system m ≡ printed U last)
+colony_in r system U last names rules made say =
+    IfOk-weaker r (λ m. (l : Option ℕ) → Say names rules (sync_rules (protocol U.rule U.edge l)) → system m ≡ printed U l) (λ m. system m ≡ printed U last) (λ m is. is last say) made
+
+pub in_step_in : {X E : Type 0} (r : Result X E) (system : X → systems.System (List ℕ)) (U : Universe) (last : Option ℕ) → IsUniverse U → StartsWithin U → IsLast last U.rule.phases → IfOk r (λ m. system m ≡ printed U last) → IfOk r (λ m. KeepsInStep U last (system m))
+in_step_in r system U last is within ok made =
+    IfOk-weaker r (λ m. system m ≡ printed U last) (λ m. KeepsInStep U last (system m)) (λ m e. subst (KeepsInStep U last) (sym e) (printed_synchrony U last is within ok)) made
 
 pub sites_placed : (U : Universe) (names : List (List ℕ)) (start : List ℕ) → Name names start (map (λ s. spell (first_mark U s)) (sites (framed U.grid))) → length start ≡ (framed U.grid).width * (framed U.grid).height
 sites_placed U names start name = (placed names start (map (λ s. spell (first_mark U s)) (sites (framed U.grid))) name).count ∙ length-map (sites (framed U.grid)) (λ s. spell (first_mark U s)) ∙ sites_length (framed U.grid)

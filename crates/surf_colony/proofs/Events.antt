@@ -7,7 +7,7 @@ use Rattle.surf_world.specs.declared.event.Event.{Event}
 use Rattle.surf_world.specs.Systems.{Rule, System, Fits, FitsSecond, Enabled, after, with_rule, with_second}
 use Rattle.surf_sync.specs.declared.code.Code.{Code}
 use Rattle.surf_sync.specs.Codes.{Mark, sight, read, read_rule, HoldsReads, OpenBy}
-use Rattle.surf_sync.specs.Codes.Mark.{Frame, Cell}
+use Rattle.surf_sync.specs.Codes.Mark.{Cell}
 use Rattle.surf_colony.proofs.Plans.{Plan, protocol_of}
 
 pub record Reading (A : Plan) (S : System Mark) (c : List Mark) (e : Event) : Type 0 where

@@ -13,4 +13,5 @@ mod Texts
 mod Observed
 mod Printed
 mod Starts
+mod Slots
 mod Compiled

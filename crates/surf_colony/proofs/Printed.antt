@@ -1,12 +1,12 @@
 -- The theorem on the colony whose names are texts.
 use Rattle.std.specs.Prelude.{slice_get}
 use Rattle.std.specs.Option.{option_map}
-use Rattle.std.proofs.Common.{◌≡◌, ℕ, zero, suc, ◌+◌, ◌-◌, ◌*◌, ◌^◌, ◌<◌, ◌≤◌, Bool, true, false, List, [], ◌∷◌, map, length, Option, Some, None, sym, refl, ap, ◌∙◌, subst, inl, inr, arith}
+use Rattle.std.proofs.Common.{◌≡◌, ℕ, zero, suc, ◌+◌, ◌-◌, ◌*◌, ◌^◌, ◌<◌, ◌≤◌, true, List, [], ◌∷◌, map, length, Option, Some, None, sym, ap, ◌∙◌, subst, inl, inr, arith}
 use Rattle.std.proofs.lemmas.Bool.{cases_Bool, eqb-true, or_cases}
 use Rattle.std.proofs.lemmas.Option.{slice_get_within, cond_some}
 use Rattle.std.proofs.lemmas.Nat.{mod_below}
 use Rattle.surf_lattice.specs.declared.site.Site.{Site}
-use Rattle.surf_lattice.specs.Grids.{IsInside, Adjacent, degree, neighbour, place, site_at}
+use Rattle.surf_lattice.specs.Grids.{IsInside, degree, neighbour, place, site_at}
 use Rattle.surf_world.specs.declared.event.Event.{Event}
 use Rattle.surf_world.specs.Systems.{Enabled, after, IsRun, left_by}
 use Rattle.surf_world.proofs.Renamed.{enabled_renamed, after_renamed, left_renamed}
@@ -24,7 +24,7 @@ use Rattle.surf_colony.proofs.Plans.{IsColony, IsWithin, Tells, Synchronous, pro
 use Rattle.surf_colony.proofs.Codes.{Clock, code_at}
 use Rattle.surf_colony.proofs.Ranges.{code_listed}
 use Rattle.surf_colony.proofs.Synchrony.{Synchrony, reads_of, kept}
-use Rattle.surf_colony.proofs.Boards.{board_of, box_from, place-site, next_of, cell_in_box, cell_at, is_board, is_within, count_cells, some_cell_of, place_within}
+use Rattle.surf_colony.proofs.Boards.{board_of, box_from, place-site, next_of, cell_in_box, cell_at, is_within, count_cells, some_cell_of, place_within}
 use Rattle.surf_colony.proofs.Built.{plan_of, box_is, framed_in, unframed_in, framed_unframed, frame_next, cell_place, box_neighbour, same_sync, plan_ok, colony_ok}
 use Rattle.surf_colony.proofs.Runs.{none_yet, starts, came, synchronous}
 use Rattle.surf_colony.proofs.Texts.{shown_renamed, generation_renamed, Apart, enabled_back}

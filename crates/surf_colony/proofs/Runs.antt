@@ -7,7 +7,7 @@ use Rattle.surf_lattice.specs.Grids.{place}
 use Rattle.surf_world.specs.declared.event.Event.{Event}
 use Rattle.surf_world.specs.Systems.{System, Enabled, after, IsRun, left_by}
 use Rattle.surf_sync.specs.Codes.{Mark, OpenBy, field_by, field_at}
-use Rattle.surf_sync.specs.Codes.Mark.{Frame, Cell}
+use Rattle.surf_sync.specs.Codes.Mark.{Cell}
 use Rattle.surf_sync.specs.Spelling.{Showing, shown_at}
 use Rattle.surf_sync.proofs.Numbers.{next_of_field, next_apart}
 use Rattle.surf_colony.specs.Generations.{changed, generation}

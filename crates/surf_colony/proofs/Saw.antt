@@ -1,5 +1,4 @@
 -- What a cell sees in another, where they are within one generation.
-use Rattle.std.specs.Prelude.{◌==◌}
 use Rattle.std.proofs.Common.{◌≡◌, ℕ, suc, ◌-◌, ◌<◌, ◌≤◌, Some, sym, ap, ◌∙◌, inl, inr, arith}
 use Rattle.std.proofs.lemmas.Bool.{cases_eq}
 use Rattle.surf_sync.specs.Codes.{beside, field_at, sight}

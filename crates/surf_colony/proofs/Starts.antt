@@ -1,8 +1,8 @@
 -- What stands at a site at first, and that its text is a name.
-use Rattle.std.specs.Prelude.{if◌then◌else◌, slice_get, slice_index, not, ◌&&◌, ◌||◌, ◌==◌, bytes_eq, codes}
+use Rattle.std.specs.Prelude.{if◌then◌else◌, slice_index}
 use Rattle.std.specs.List.{list_all}
-use Rattle.std.proofs.Common.{◌≡◌, ℕ, zero, suc, ◌+◌, ◌*◌, ◌/◌, ◌%◌, ◌^◌, ◌<◌, ◌≤◌, ◌≢◌, Bool, true, false, nat_le, List, [], ◌∷◌, ◌++◌, map, length, Option, Some, None, sym, refl, ap, ◌∙◌, subst, arith}
-use Rattle.std.proofs.lemmas.Bool.{and_from, and_parts, cases_Bool, le-leb, leb-true, ne_eqb}
+use Rattle.std.proofs.Common.{◌≡◌, ℕ, suc, ◌*◌, ◌/◌, ◌%◌, ◌^◌, ◌<◌, ◌≤◌, ◌≢◌, Bool, true, false, nat_le, List, [], ◌∷◌, ◌++◌, map, length, Some, None, sym, refl, ap, ◌∙◌, subst, arith}
+use Rattle.std.proofs.lemmas.Bool.{and_from, and_parts, le-leb, leb-true, ne_eqb}
 use Rattle.std.proofs.lemmas.List.Folds.{list_all-append}
 use Rattle.std.proofs.lemmas.Nat.{mod_below, mul-add-lt}
 use Rattle.std.proofs.lemmas.Option.{cond_some}
@@ -16,15 +16,13 @@ use Rattle.surf_sync.proofs.Loops.{map_map}
 use Rattle.surf_auto.specs.Sync.{Universe, IsUniverse, state_at}
 use Rattle.surf_text.specs.Bytes.{is_plain}
 use Rattle.surf_manifest.specs.Item.{is_name}
-use Rattle.surf_manifest.specs.Line.{is_comment_sign}
-use Rattle.surf_sync.specs.declared.code.Code.{Code}
 use Rattle.surf_sync.specs.Codes.{Mark}
 use Rattle.surf_sync.specs.Codes.Mark.{Frame, Cell}
-use Rattle.surf_sync.specs.Spelling.{IsSmall, spell}
+use Rattle.surf_sync.specs.Spelling.{spell}
 use Rattle.surf_sync.proofs.Few.{few_degree}
-use Rattle.surf_sync.proofs.Spelling.{IsSmallMark, Spells, spells}
+use Rattle.surf_sync.proofs.Spelling.{IsSmallMark, spells}
 use Rattle.surf_colony.specs.Colonies.{back, first_mark, framed, in_box}
-use Rattle.surf_colony.specs.Numbers.{cell_place}
+use Rattle.surf_colony.specs.Numbers.{cell_place, cell_state}
 use Rattle.surf_colony.proofs.Boards.{box_from}
 use Rattle.surf_colony.proofs.Built.{unframed_in}
 
@@ -40,6 +38,26 @@ stands_at g s n e =
     let u = unframed_in g s (box_from g s w.0) in
     let b : place g (back g s) < g.width * g.height = mul-add-lt _ g.width _ g.height u.1 u.0 in
     record { boxed = w.0; at = sym w.1; within = subst (λ m. m < g.width * g.height) w.1 b }
+
+pub state_stands : (U : Universe) (s : Site) (n : ℕ) → cell_place U.grid s ≡ Some n → Some (slice_index U.cells n) ≡ cell_state U s
+state_stands U s n e =
+    let t = stands_at U.grid s n e in
+    rw t.boxed (ap (λ i. Some (slice_index U.cells i)) t.at)
+
+none_if : {A B : Type 0} (b : Bool) (x : A) (y : B) → (if b then Some x else None) ≡ None → None ≡ (if b then Some y else None)
+none_if true x y e = absurd cc
+none_if false x y e = refl
+
+pub no_state : (U : Universe) (s : Site) → cell_place U.grid s ≡ None → None ≡ cell_state U s
+no_state U s e = none_if (in_box U.grid s) (place U.grid (back U.grid s)) (state_at U (back U.grid s)) e
+
+-- a start state is a state of the first phase
+pub state_within : (U : Universe) → IsUniverse U → (s : Site) → in_box U.grid s ≡ true → state_at U (back U.grid s) < U.rule.states 0
+state_within U is s e =
+    let u = unframed_in U.grid s (box_from U.grid s e) in
+    let p : place U.grid (back U.grid s) < U.grid.width * U.grid.height = mul-add-lt _ U.grid.width _ U.grid.height u.1 u.0 in
+    let size = is.one_per_site in
+    is.cells_within (place U.grid (back U.grid s)) (omega arith)
 
 pub first_cell : (U : Universe) (s : Site) (state shade acc : ℕ) → in_box U.grid s ≡ true → state ≡ state_at U (back U.grid s) → shade ≡ colour (framed U.grid) s → acc ≡ U.rule.start 0 →
     Cell (record { current = state; generation = 0; colour = shade; previous = state; reads = 0; acc = acc }) ≡ first_mark U s
@@ -96,11 +114,8 @@ mark_name (Cell c) h =
 
 first_small : (U : Universe) → IsUniverse U → (s : Site) (b : Bool) → in_box U.grid s ≡ b → IsSmallMark (first_mark U s)
 first_small U is s true e =
-    let u = unframed_in U.grid s (box_from U.grid s e) in
-    let p : place U.grid (back U.grid s) < U.grid.width * U.grid.height = mul-add-lt _ U.grid.width _ U.grid.height u.1 u.0 in
-    let size = is.one_per_site in
     let some = is.is_local.some_phase in
-    let state : state_at U (back U.grid s) < U.rule.states 0 = is.cells_within (place U.grid (back U.grid s)) (omega arith) in
+    let state = state_within U is s e in
     let few = is.is_local.few_states 0 some in
     let d = few_degree U.rule.degree is.is_local.known in
     let g = is.same_degree in

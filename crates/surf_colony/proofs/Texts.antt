@@ -1,12 +1,12 @@
 -- A run under other names shows the same, and is a run where the names that meet are told apart.
 use Rattle.std.specs.Prelude.{slice_get}
 use Rattle.std.specs.Option.{option_map}
-use Rattle.std.proofs.Common.{◌≡◌, ℕ, zero, suc, ◌+◌, List, [], ◌∷◌, set, map, Option, Some, None, sym, refl, ap, ◌∙◌, subst}
+use Rattle.std.proofs.Common.{◌≡◌, ℕ, ◌+◌, List, [], ◌∷◌, map, Option, Some, None, sym, refl, ap, ◌∙◌, subst}
 use Rattle.std.proofs.lemmas.Option.{slice_get-map}
 use Rattle.surf_lattice.specs.declared.site.Site.{Site}
-use Rattle.surf_lattice.specs.Grids.{Grid, place}
+use Rattle.surf_lattice.specs.Grids.{place}
 use Rattle.surf_world.specs.declared.event.Event.{Event}
-use Rattle.surf_world.specs.Systems.{Rule, Surface, Fits, FitsSecond, Enabled, after, left_by}
+use Rattle.surf_world.specs.Systems.{Rule, Surface, Fits, FitsSecond, Enabled, after}
 use Rattle.surf_world.specs.Renamings.{renamed_rule, renamed}
 use Rattle.surf_world.proofs.Renamed.{after_renamed}
 use Rattle.surf_sync.specs.Spelling.{Showing, shown_at}

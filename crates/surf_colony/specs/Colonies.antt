@@ -1,5 +1,5 @@
 -- The colony of an automaton: a surface on which its cells keep in step without a clock.
-use Rattle.std.specs.Prelude.{◌≡◌, ℕ, suc, ◌+◌, ◌-◌, ◌*◌, ◌<◌, Bool, true, false, if◌then◌else◌, ◌&&◌, nat_lt, nat_le, List, map, length, slice_index, Option}
+use Rattle.std.specs.Prelude.{ℕ, ◌+◌, ◌-◌, ◌*◌, ◌<◌, Bool, true, false, if◌then◌else◌, ◌&&◌, nat_lt, nat_le, List, map, length, slice_index, Option}
 use Rattle.surf_lattice.specs.declared.site.Site.{Site}
 use Rattle.surf_lattice.specs.Grids.{Grid, colour, sites}
 use Rattle.surf_world.specs.Systems.{System}
@@ -32,7 +32,9 @@ back g s = record { x = s.x - border g.wrap; y = s.y - border g.wrap }
 
 -- the site is inside the frame
 abbrev pub in_box : Grid → Site → Bool
-in_box g s = (nat_le (border g.wrap) s.x && nat_lt s.x (g.width + border g.wrap)) && (nat_le (border g.wrap) s.y && nat_lt s.y (g.height + border g.wrap))
+in_box g s =
+    (nat_le (border g.wrap) s.x && nat_lt s.x (g.width + border g.wrap))
+    && (nat_le (border g.wrap) s.y && nat_lt s.y (g.height + border g.wrap))
 
 -- what stands at a site at first: a cell in its start state that has read nothing, or the frame
 abbrev pub first_mark : Universe → Site → Mark
@@ -61,4 +63,5 @@ printed U last = renamed_system spell (colony_of U last)
 
 -- the start states are states of every phase
 abbrev pub StartsWithin : Universe → Type 0
-StartsWithin U = (i f : ℕ) → i < length U.cells → f < U.rule.phases → slice_index U.cells i < U.rule.states f
+StartsWithin U =
+    (i f : ℕ) → i < length U.cells → f < U.rule.phases → slice_index U.cells i < U.rule.states f

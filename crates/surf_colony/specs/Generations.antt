@@ -12,16 +12,21 @@ changed (Some a) None = 0
 changed None None = 0
 
 -- the number of events after which the generation shown at the place p isn't the one before
-abbrev pub generation : {N : Type 0} → (N → Option Showing) → Surface N → List N → List Event → ℕ → ℕ
+abbrev pub generation : {N : Type 0} →
+    (N → Option Showing) → Surface N → List N → List Event → ℕ → ℕ
 generation show S c [] p = 0
-generation show S c (e ∷ es) p = changed (shown_at show (slice_get c p)) (shown_at show (slice_get (after S c e) p)) + generation show S (after S c e) es p
+generation show S c (e ∷ es) p =
+    changed (shown_at show (slice_get c p)) (shown_at show (slice_get (after S c e) p))
+    + generation show S (after S c e) es p
 
 abbrev pub state_of : Option Showing → Option ℕ
 state_of None = None
 state_of (Some s) = Some s.state
 
--- the state at p directly after the event that makes the k-th change there; for k = 0, before any event
-abbrev pub observed : {N : Type 0} → (N → Option Showing) → Surface N → List N → List Event → ℕ → ℕ → Option ℕ
+-- the state at p directly after the event that makes the k-th change there; for k = 0, before any
+-- event
+abbrev pub observed : {N : Type 0} →
+    (N → Option Showing) → Surface N → List N → List Event → ℕ → ℕ → Option ℕ
 observed show S c [] p zero = state_of (shown_at show (slice_get c p))
 observed show S c [] p (suc k) = None
 observed show S c (e ∷ es) p zero = state_of (shown_at show (slice_get c p))

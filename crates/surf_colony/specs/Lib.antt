@@ -2,3 +2,4 @@ pub mod Generations
 pub mod Colonies
 pub mod InStep
 pub mod Numbers
+pub mod Parts

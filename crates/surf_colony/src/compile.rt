@@ -1,13 +1,11 @@
 // Automata compiled.
-ghost use Rattle.std.specs.Prelude.{◌≡◌, ◌*◌, ◌≤◌, All, IfOk, None, Option, Some, [], length, true, ℕ};
-ghost use Rattle.std.specs.List.{list_all};
+ghost use Rattle.std.specs.Prelude.{◌≡◌, ◌*◌, ◌≤◌, IfOk, None, Option, Some, [], ℕ};
 ghost use Rattle.surf_auto.specs.Locals.{rule_count, rule_count_in};
 ghost use Rattle.surf_auto.specs.Sync.{box_of, universe};
 ghost use Rattle.surf_colony.specs.Colonies.{StartsWithin, framed, printed};
 ghost use Rattle.surf_colony.specs.InStep.{KeepsInStep};
+ghost use Rattle.surf_colony.specs.Parts.{AreParts};
 ghost use Rattle.surf_lattice.specs.AnyGrid.{grid_of};
-ghost use Rattle.surf_manifest.specs.Drafts.{RulesBelow};
-ghost use Rattle.surf_manifest.specs.Item.{is_name};
 ghost use Rattle.surf_sync.specs.Codes.{protocol};
 ghost use Rattle.surf_sync.specs.Listing.{Say};
 ghost use Rattle.surf_sync.specs.Rules.{sync_rules};
@@ -23,7 +21,8 @@ use surf_sync::{sync_rules, sync_rules_last};
 
 // The grid of a colony: the box and, where its sides aren't joined, a frame about it.
 fn framed<L: Local>(automaton: &Automaton<L>) -> Grid
-    ensures { grid_of result ≡ framed (box_of automaton.now.kind automaton.now.wrap automaton.now.width automaton.now.height) }
+    ensures { let a = automaton.now in
+        grid_of result ≡ framed (box_of a.kind a.wrap a.width a.height) }
 {
     let frame = 2 * border(automaton.wrap);
     let (width, height) = (automaton.width + frame, automaton.height + frame);
@@ -37,14 +36,13 @@ fn assemble<L: Local>(
     mut names: Names,
     rules: Vec<Rule>,
 ) -> Result<Manifest, NoMemory>
-    requires texts { list_all is_name names ≡ true }
-    requires room { length names ≤ 2147483648 }
-    requires below { RulesBelow (length names) rules.items }
-    requires rates { All (λ r. r.rate ≤ 1000000000000) rules.items }
-    requires few { length rules.items ≤ 1048576 }
+    requires { AreParts names rules.items }
     ensures system { let a = automaton.now in
-        let U = universe (box_of a.kind a.wrap a.width a.height) (L.rule a.local) a.edge a.cells.items in
-        IfOk result (λ m. (last : Option ℕ) → Say names rules.items (sync_rules (protocol U.rule U.edge last)) → m.text.system ≡ printed U last) }
+        let box = box_of a.kind a.wrap a.width a.height in
+        let U = universe box (L.rule a.local) a.edge a.cells.items in
+        IfOk result (λ m. (last : Option ℕ) →
+        Say names rules.items (sync_rules (protocol U.rule U.edge last)) →
+        m.text.system ≡ printed U last) }
     ensures options { IfOk result (λ m. m.text.options ≡ []) }
     ensures colormap { IfOk result (λ m. m.text.colormap ≡ None) }
 {
@@ -59,13 +57,16 @@ pub fn compile_automaton<L: Local>(
     automaton: &Automaton<L>,
 ) -> Result<Manifest, NoMemory>
     requires starts { let a = automaton.now in
-        StartsWithin (universe (box_of a.kind a.wrap a.width a.height) (L.rule a.local) a.edge a.cells.items) }
+        let box = box_of a.kind a.wrap a.width a.height in
+        StartsWithin (universe box (L.rule a.local) a.edge a.cells.items) }
     requires few { rule_count (L.rule automaton.now.local) ≤ 1048576 }
     ensures colony { let a = automaton.now in
-        let U = universe (box_of a.kind a.wrap a.width a.height) (L.rule a.local) a.edge a.cells.items in
+        let box = box_of a.kind a.wrap a.width a.height in
+        let U = universe box (L.rule a.local) a.edge a.cells.items in
         IfOk result (λ m. m.text.system ≡ printed U None) }
     ensures in_step { let a = automaton.now in
-        let U = universe (box_of a.kind a.wrap a.width a.height) (L.rule a.local) a.edge a.cells.items in
+        let box = box_of a.kind a.wrap a.width a.height in
+        let U = universe box (L.rule a.local) a.edge a.cells.items in
         IfOk result (λ m. KeepsInStep U None m.text.system) }
     ensures options { IfOk result (λ m. m.text.options ≡ []) }
     ensures colormap { IfOk result (λ m. m.text.colormap ≡ None) }
@@ -83,15 +84,18 @@ pub fn compile_last<L: Local>(
     last: u32,
 ) -> Result<Manifest, NoMemory>
     requires starts { let a = automaton.now in
-        StartsWithin (universe (box_of a.kind a.wrap a.width a.height) (L.rule a.local) a.edge a.cells.items) }
+        let box = box_of a.kind a.wrap a.width a.height in
+        StartsWithin (universe box (L.rule a.local) a.edge a.cells.items) }
     requires some { 1 ≤ last }
     requires limit { last ≤ 1000000 }
     requires few { rule_count_in last (L.rule automaton.now.local) ≤ 1048576 }
     ensures colony { let a = automaton.now in
-        let U = universe (box_of a.kind a.wrap a.width a.height) (L.rule a.local) a.edge a.cells.items in
+        let box = box_of a.kind a.wrap a.width a.height in
+        let U = universe box (L.rule a.local) a.edge a.cells.items in
         IfOk result (λ m. m.text.system ≡ printed U (Some (last * U.rule.phases))) }
     ensures in_step { let a = automaton.now in
-        let U = universe (box_of a.kind a.wrap a.width a.height) (L.rule a.local) a.edge a.cells.items in
+        let box = box_of a.kind a.wrap a.width a.height in
+        let U = universe box (L.rule a.local) a.edge a.cells.items in
         IfOk result (λ m. KeepsInStep U (Some (last * U.rule.phases)) m.text.system) }
     ensures options { IfOk result (λ m. m.text.options ≡ []) }
     ensures colormap { IfOk result (λ m. m.text.colormap ≡ None) }

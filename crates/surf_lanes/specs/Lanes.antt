@@ -23,7 +23,8 @@ overlap spans r = tally (holds_row spans r) (length spans)
 
 -- in order of their first rows, and none ends before it begins
 pub record IsInOrder (spans : List Span) : Type 0 where
-  pub ordered : (j i : ℕ) → j < i → i < length spans → (span_at spans j).from ≤ (span_at spans i).from
+  pub ordered : (j i : ℕ) → j < i → i < length spans →
+      (span_at spans j).from ≤ (span_at spans i).from
   pub forward : (i : ℕ) → i < length spans → (span_at spans i).from ≤ (span_at spans i).to
 
 pub record LanesOf : Type 0 where
@@ -58,7 +59,8 @@ pub record IsPacked (spans : List Span) (l : LanesOf) : Type 0 where
 
 -- spans that share a row have different lanes
 pub record AreApart (spans : List Span) (l : LanesOf) : Type 0 where
-  pub apart : (i j r : ℕ) → i < length spans → j < length spans → IsIn r (span_at spans i) → IsIn r (span_at spans j) → lane_at l i ≡ lane_at l j → i ≡ j
+  pub apart : (i j r : ℕ) → i < length spans → j < length spans → IsIn r (span_at spans i) →
+      IsIn r (span_at spans j) → lane_at l i ≡ lane_at l j → i ≡ j
 
 -- every lane is below the count
 pub record AreBelow (spans : List Span) (l : LanesOf) : Type 0 where
@@ -74,7 +76,8 @@ pub record IsNewest (spans : List Span) (l : LanesOf) (newest : ℕ) : Type 0 wh
 -- the law leaves one choice
 abbrev pub PackedIsOne : Type 0
 PackedIsOne = (spans : List Span) (l l' : LanesOf) → IsPacked spans l → IsPacked spans l' →
-    ((i : ℕ) → i < length spans → lane_at l i ≡ lane_at l' i) × (l.count ≡ l'.count) × (l.row ≡ l'.row)
+    ((i : ℕ) → i < length spans → lane_at l i ≡ lane_at l' i) × (l.count ≡ l'.count)
+    × (l.row ≡ l'.row)
 
 -- lanes while spans are packed one after another, with the last row in each lane
 pub record PackingOf : Type 0 where
@@ -96,4 +99,6 @@ pub record IsPlaced (old new : PackingOf) (span : Span) : Type 0 where
   pub free : ℕ
   pub first : IsFirstFree old.last span.from free
   pub lane : new.lane ≡ old.lane ++ free ∷ []
-  pub last : ((free < length old.last) × (new.last ≡ slice_set old.last free span.to) × (new.row ≡ old.row)) ⊎ ((free ≡ length old.last) × (new.last ≡ old.last ++ span.to ∷ []) × (new.row ≡ span.from))
+  pub last : ((free < length old.last) × (new.last ≡ slice_set old.last free span.to)
+      × (new.row ≡ old.row)) ⊎ ((free ≡ length old.last) × (new.last ≡ old.last ++ span.to ∷ [])
+      × (new.row ≡ span.from))

@@ -44,7 +44,8 @@ shift_y (suc (suc (suc (suc (suc n))))) = 2
 -- a coordinate after a shift: joined sides wrap, and else it has to stay on the side
 abbrev pub moved : Bool → ℕ → ℕ → ℕ → Option ℕ
 moved true side x shift = Some ((x + shift + side - 1) % side)
-moved false side x shift = if nat_lt 0 (x + shift) && nat_le (x + shift) side then Some (x + shift - 1) else None
+moved false side x shift =
+    if nat_lt 0 (x + shift) && nat_le (x + shift) side then Some (x + shift - 1) else None
 
 abbrev pub site_from : Option ℕ → Option ℕ → Option Site
 site_from (Some x) (Some y) = Some (record { x = x; y = y })
@@ -54,7 +55,8 @@ site_from None None = None
 
 -- the neighbour in a direction, if there is one
 abbrev pub neighbour : Grid → Site → ℕ → Option Site
-neighbour g p i = site_from (moved g.wrap g.width p.x (shift_x i)) (moved g.wrap g.height p.y (shift_y i))
+neighbour g p i =
+    site_from (moved g.wrap g.width p.x (shift_x i)) (moved g.wrap g.height p.y (shift_y i))
 
 abbrev pub IsInside : Grid → Site → Type 0
 IsInside g p = (p.x < g.width) × (p.y < g.height)

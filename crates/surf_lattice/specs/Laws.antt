@@ -11,10 +11,12 @@ HasDegrees = (degree Square ≡ 4) × (degree Hex ≡ 6)
 
 -- the listed neighbours are the adjacent sites
 abbrev pub ListsAdjacent : Type 0
-ListsAdjacent = (g : Grid) (p q : Site) → IsInside g p → Contains (neighbours g p) q ↔ Adjacent g p q
+ListsAdjacent =
+    (g : Grid) (p q : Site) → IsInside g p → Contains (neighbours g p) q ↔ Adjacent g p q
 
 abbrev pub NeighboursInside : Type 0
-NeighboursInside = (g : Grid) (p q : Site) (i : ℕ) → IsInside g p → neighbour g p i ≡ Some q → IsInside g q
+NeighboursInside =
+    (g : Grid) (p q : Site) (i : ℕ) → IsInside g p → neighbour g p i ≡ Some q → IsInside g q
 
 -- a site is no neighbour of its own
 abbrev pub NeighboursApart : Type 0
@@ -22,7 +24,9 @@ NeighboursApart = (g : Grid) → IsGrid g → (p q : Site) → Adjacent g p q �
 
 -- one site in one direction
 abbrev pub NeighboursDiffer : Type 0
-NeighboursDiffer = (g : Grid) → IsGrid g → (p q r : Site) (i j : ℕ) → IsInside g p → i < degree g.kind → j < degree g.kind → i ≢ j → neighbour g p i ≡ Some q → neighbour g p j ≡ Some r → q ≢ r
+NeighboursDiffer = (g : Grid) → IsGrid g → (p q r : Site) (i j : ℕ) → IsInside g p →
+    i < degree g.kind → j < degree g.kind → i ≢ j → neighbour g p i ≡ Some q →
+    neighbour g p j ≡ Some r → q ≢ r
 
 abbrev pub IsSymmetric : Type 0
 IsSymmetric = (g : Grid) (p q : Site) → Adjacent g p q → Adjacent g q p
@@ -33,12 +37,16 @@ IsNear g p q = Adjacent g p q ⊎ ((s : Site) × Adjacent g p s × Adjacent g s 
 
 -- different sites of distance one or two differ in colour
 abbrev pub NearDiffer : Type 0
-NearDiffer = (g : Grid) → is_coloured g ≡ true → (p q : Site) → p ≢ q → IsNear g p q → colour g p ≢ colour g q
+NearDiffer = (g : Grid) → is_coloured g ≡ true → (p q : Site) → p ≢ q → IsNear g p q →
+    colour g p ≢ colour g q
 
 -- the colour of a neighbour follows from the colour and the direction
 abbrev pub NeighboursColoured : Type 0
-NeighboursColoured = (g : Grid) → is_coloured g ≡ true → (p q : Site) (i : ℕ) → IsInside g p → i < degree g.kind → neighbour g p i ≡ Some q → colour g q ≡ (colour g p + difference g i) % colours g
+NeighboursColoured = (g : Grid) → is_coloured g ≡ true → (p q : Site) (i : ℕ) → IsInside g p →
+    i < degree g.kind → neighbour g p i ≡ Some q → colour g q
+    ≡ (colour g p + difference g i) % colours g
 
 -- and other directions have other colours
 abbrev pub DirectionsDiffer : Type 0
-DirectionsDiffer = (g : Grid) (k i j : ℕ) → i < degree g.kind → j < degree g.kind → i ≢ j → (k + difference g i) % colours g ≢ (k + difference g j) % colours g
+DirectionsDiffer = (g : Grid) (k i j : ℕ) → i < degree g.kind → j < degree g.kind → i ≢ j →
+    (k + difference g i) % colours g ≢ (k + difference g j) % colours g

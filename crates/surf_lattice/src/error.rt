@@ -1,3 +1,4 @@
+// Why sides make no grid.
 use thiserror::Error;
 
 /// Why there is no grid of these sides.

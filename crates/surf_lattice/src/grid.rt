@@ -1,3 +1,4 @@
+// Grids of any kind, as one type.
 ghost use Rattle.std.specs.Prelude.{◌≡◌, ◌<◌, ◌≤◌, ◌↔◌, ◌⊎◌, true, IfOk, IsErrOf};
 ghost use Rattle.surf_lattice.specs.AnyGrid.{grid_of};
 ghost use Rattle.surf_lattice.specs.Grids.{IsGrid};

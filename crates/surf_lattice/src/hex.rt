@@ -1,3 +1,4 @@
+// Hexagonal grids: six neighbours a site.
 ghost use Rattle.std.specs.Prelude.{◌≡◌, ◌≤◌};
 ghost use Rattle.surf_lattice.specs.Shapes.{hex};
 

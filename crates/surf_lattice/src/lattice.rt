@@ -1,3 +1,4 @@
+// The trait of grids.
 ghost use Rattle.std.specs.Prelude.{◌≡◌, ◌<◌, ◌+◌, ◌++◌, [], IsTrue, ◌↔◌, length};
 ghost use Rattle.std.specs.Option.{option_to_list};
 ghost use Rattle.surf_lattice.specs.Grids.{Grid, IsGrid, IsInside, Adjacent, degree, neighbour, neighbours, colours, colour, is_coloured};

@@ -1,3 +1,4 @@
+// What holds of every grid.
 ghost use Rattle.surf_lattice.specs.Laws.{HasDegrees, ListsAdjacent, NeighboursInside, NeighboursApart, NeighboursDiffer, IsSymmetric, NearDiffer, NeighboursColoured, DirectionsDiffer};
 
 /// The laws of grids. They hold for each kind, with and without joined sides.

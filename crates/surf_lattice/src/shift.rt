@@ -1,3 +1,4 @@
+// Steps from a site in a direction.
 ghost use Rattle.std.specs.Prelude.{◌≡◌, ◌<◌, true, false, Some};
 ghost use Rattle.surf_lattice.specs.Grids.{shift_x, shift_y, moved, site_from};
 ghost use Rattle.surf_lattice.specs.Shifts.{shift_of};

@@ -1,3 +1,4 @@
+// Square grids: four neighbours a site.
 ghost use Rattle.std.specs.Prelude.{◌≡◌, ◌≤◌};
 ghost use Rattle.surf_lattice.specs.Shapes.{square};
 

@@ -1,3 +1,4 @@
+// Grids whose sides are joined.
 ghost use Rattle.std.specs.Prelude.{◌≡◌, ◌≤◌};
 ghost use Rattle.surf_lattice.specs.Shapes.{joined};
 

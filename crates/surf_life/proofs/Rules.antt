@@ -4,7 +4,7 @@ use Rattle.surf_lattice.specs.declared.site.GridKind.TheVariants.{Square}
 use Rattle.surf_lattice.specs.Grids.{Grid, IsGrid, degree, is_coloured}
 use Rattle.surf_auto.specs.Counts.{Counts, alive, looked_up}
 use Rattle.surf_auto.specs.Locals.{IsLocal, following, rule_count_in}
-use Rattle.surf_auto.specs.Sync.{IsUniverse}
+use Rattle.surf_auto.specs.Sync.{IsUniverse, universe}
 use Rattle.surf_life.specs.Halves.{moore_states, moore_accs, moore_add, moore_finish, moore_rule}
 use Rattle.surf_life.specs.Laws.{halves}
 
@@ -86,8 +86,8 @@ makes_universe C g cells grid coloured square size few two = record {
   edge_within = λ f h. (let e = some_states f h in omega arith);
 }
 
-pub starts_in_both : (C : Counts) (g : Grid) (cells : List ℕ) → IsUniverse (halves C g cells) → (i f : ℕ) → i < length cells → f < 2 → slice_index cells i < moore_states f
-starts_in_both C g cells is i f h k = let e = some_states f k in let w : slice_index cells i < 2 = is.cells_within i h in omega arith
+pub starts_in_both : (C : Counts) (g : Grid) (edge : ℕ) (cells : List ℕ) → IsUniverse (universe g (moore_rule C) edge cells) → (i f : ℕ) → i < length cells → f < 2 → slice_index cells i < moore_states f
+starts_in_both C g edge cells is i f h k = let e = some_states f k in let w : slice_index cells i < 2 = is.cells_within i h in omega arith
 
 pub rules_last : (C : Counts) (last : ℕ) → rule_count_in last (moore_rule C) ≡ 185280 * last
 rules_last C last = omega arith

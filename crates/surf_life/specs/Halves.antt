@@ -11,7 +11,7 @@ moore_states f = if f == 0 then 2 else 6
 abbrev pub moore_accs : ℕ → ℕ → ℕ
 moore_accs f reads = if f == 0 then 1 + min reads 2 else 1 + 3 * (reads - 2)
 
--- the live cells west and east are counted in phase 0, and the rows of three north and south in phase 1
+-- phase 0 counts the live cells west and east, and phase 1 the rows of three north and south
 abbrev pub moore_add : ℕ → ℕ → ℕ → ℕ → ℕ
 moore_add f acc i state =
     if f == 0

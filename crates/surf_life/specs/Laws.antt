@@ -21,23 +21,27 @@ MakesUniverse =
     ((i : ℕ) → i < length cells → slice_index cells i < 2) →
     IsUniverse (halves C g cells)
 
--- after an even number of phases all cells show what half as many steps of eight neighbours make of them
+-- an even number of phases is half as many steps of eight neighbours
 abbrev pub EvenPhases : Type 0
 EvenPhases =
     (C : Counts) (g : Grid) (cells : List ℕ) → IsUniverse (halves C g cells) →
-    (k : ℕ) (s : Site) → IsInside g s → phase_sync (halves C g cells) (2 * k) s ≡ moore_sync C g cells k s
+    (k : ℕ) (s : Site) → IsInside g s →
+    phase_sync (halves C g cells) (2 * k) s ≡ moore_sync C g cells k s
 
 -- so a step is one of eight neighbours
 abbrev pub StepsByEight : Type 0
 StepsByEight =
     (C : Counts) (g : Grid) (cells : List ℕ) → IsUniverse (halves C g cells) →
-    (k : ℕ) (s : Site) → IsInside g s → sync (halves C g cells) k s ≡ moore_sync C g cells k s
+    (k : ℕ) (s : Site) → IsInside g s →
+    sync (halves C g cells) k s ≡ moore_sync C g cells k s
 
 -- the start states are states of both phases
 abbrev pub StartsInBoth : Type 0
 StartsInBoth =
-    (C : Counts) (g : Grid) (cells : List ℕ) → IsUniverse (halves C g cells) →
-    (i f : ℕ) → i < length cells → f < (moore_rule C).phases → slice_index cells i < (moore_rule C).states f
+    (C : Counts) (g : Grid) (edge : ℕ) (cells : List ℕ) →
+    IsUniverse (universe g (moore_rule C) edge cells) →
+    (i f : ℕ) → i < length cells → f < (moore_rule C).phases →
+    slice_index cells i < (moore_rule C).states f
 
 -- the number of rules, and that with a stated last generation
 abbrev pub MooreRules : Type 0

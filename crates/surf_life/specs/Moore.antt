@@ -1,4 +1,4 @@
--- Births and survivals by counts of live cells among eight neighbours: what all cells show after so many steps, which all take at once.
+-- Steps by counts of live cells among eight neighbours, which all cells take at once.
 use Rattle.std.specs.Prelude.{ℕ, zero, suc, ◌+◌, List, slice_index, Option}
 use Rattle.surf_lattice.specs.declared.site.Site.{Site}
 use Rattle.surf_lattice.specs.Grids.{Grid, moved, place, site_from}

@@ -20,20 +20,25 @@ square_of wrap width height = box_of Square wrap width height
 
 -- what stands in this column, if there is one, and dy - 1 rows below row y
 abbrev pub cell_at : Grid → List ℕ → Option ℕ → ℕ → ℕ → ℕ
-cell_at g cells column y dy = seen_at 0 (shown g cells) (site_from column (moved g.wrap g.height y dy))
+cell_at g cells column y dy =
+    seen_at 0 (shown g cells) (site_from column (moved g.wrap g.height y dy))
 
 -- the sum of the three cells of a column about row y
 abbrev pub column_sum : Grid → List ℕ → Option ℕ → ℕ → ℕ
-column_sum g cells column y = cell_at g cells column y 0 + cell_at g cells column y 1 + cell_at g cells column y 2
+column_sum g cells column y =
+    cell_at g cells column y 0 + cell_at g cells column y 1 + cell_at g cells column y 2
 
 -- these are the sums from the column before the first, at 0, to the one after the last
 abbrev pub AreSums : Grid → List ℕ → ℕ → List ℕ → Type 0
-AreSums g cells y sums = (x : ℕ) → x < g.width + 2 → slice_index sums x ≡ column_sum g cells (moved g.wrap g.width 0 x) y
+AreSums g cells y sums =
+    (x : ℕ) → x < g.width + 2 → slice_index sums x ≡ column_sum g cells (moved g.wrap g.width 0 x) y
 
 -- the next state of a cell stands at 9 times its own state and the count of its live neighbours
 abbrev pub IsTableOf : Counts → List ℕ → Type 0
-IsTableOf C table = (own count : ℕ) → own ≤ 1 → count ≤ 8 → slice_index table (own * 9 + count) ≡ looked_up C own count
+IsTableOf C table =
+    (own count : ℕ) → own ≤ 1 → count ≤ 8 → slice_index table (own * 9 + count) ≡ looked_up C own count
 
 -- the places below n hold the next states
 abbrev pub AreNextBelow : Counts → Grid → List ℕ → List ℕ → ℕ → Type 0
-AreNextBelow C g cells next n = (k : ℕ) → k < n → slice_index next k ≡ moore_next C g (shown g cells) (site_at g k)
+AreNextBelow C g cells next n =
+    (k : ℕ) → k < n → slice_index next k ≡ moore_next C g (shown g cells) (site_at g k)

@@ -1,5 +1,5 @@
 // Steps of eight neighbours from the cells of an automaton.
-ghost use Rattle.std.specs.Prelude.{◌≡◌, ℕ, ◌+◌, ◌*◌, ◌<◌, ◌≤◌, IfOk, OnErr, OnOk, length, map, slice_index};
+ghost use Rattle.std.specs.Prelude.{◌≡◌, ℕ, ◌+◌, ◌*◌, ◌≤◌, IfOk, OnErr, OnOk, length, map, slice_index};
 ghost use Rattle.surf_auto.specs.Sync.{box_of, sync, universe};
 ghost use Rattle.surf_lattice.specs.Grids.{sites};
 ghost use Rattle.surf_life.specs.Halves.{moore_rule};
@@ -124,10 +124,12 @@ pub fn advance_moore(
 ) -> Result<(), NoMemory>
     requires edge { automaton.old.edge ≡ 0 }
     ensures eight { let a = automaton.old in let g = box_of a.kind a.wrap a.width a.height in
-        OnOk result (automaton.new.cells.items ≡ map (moore_sync a.local g a.cells.items times) (sites g)) }
+        OnOk result (automaton.new.cells.items
+        ≡ map (moore_sync a.local g a.cells.items times) (sites g)) }
     ensures cells { let a = automaton.old in
-        let U = universe (box_of a.kind a.wrap a.width a.height) (moore_rule a.local) a.edge a.cells.items in
-        OnOk result (automaton.new.cells.items ≡ map (sync U times) (sites U.grid)) }
+        let g = box_of a.kind a.wrap a.width a.height in
+        let U = universe g (moore_rule a.local) a.edge a.cells.items in
+        OnOk result (automaton.new.cells.items ≡ map (sync U times) (sites g)) }
     ensures kind { automaton.new.kind ≡ automaton.old.kind }
     ensures wrap { automaton.new.wrap ≡ automaton.old.wrap }
     ensures width { automaton.new.width ≡ automaton.old.width }

@@ -6,8 +6,8 @@ ghost use Rattle.surf_life.specs.Halves.{moore_rule};
 use std::marker::Model;
 use surf_auto::Local;
 
-/// Births and survivals by counts of live cells among eight neighbours. State 1 is live, and state 0
-/// dead.
+/// Births and survivals by counts of live cells among eight neighbours. State 1 is live, and state
+/// 0 dead.
 #[derive(Debug, Drop)]
 pub struct MooreLocal {
     birth: [bool; 9],

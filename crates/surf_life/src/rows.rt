@@ -1,5 +1,5 @@
 // One step of eight neighbours, a row at a time, over cells of one byte each.
-ghost use Rattle.std.specs.Prelude.{◌≡◌, ℕ, zero, suc, ◌+◌, ◌*◌, ◌<◌, ◌≤◌, Some, if◌then◌else◌, length, map, slice_index};
+ghost use Rattle.std.specs.Prelude.{◌≡◌, ℕ, ◌+◌, ◌*◌, ◌<◌, ◌≤◌, Some, if◌then◌else◌, length, map, slice_index};
 ghost use Rattle.surf_auto.specs.Counts.{Counts};
 ghost use Rattle.surf_lattice.specs.Grids.{moved, sites};
 ghost use Rattle.surf_life.specs.Moore.{moore_next};
@@ -39,7 +39,8 @@ fn row_about<'a>(cells: &'a [u8], dead: &'a [u8], sides: Sides, y: usize, shift:
     requires dead { (i : ℕ) → slice_index dead.now i ≡ 0 }
     ensures wide { length result.now ≡ sides.width }
     ensures cells { let g = square_of sides.wrap sides.width sides.height in
-        (x : ℕ) → x < sides.width → slice_index result.now x ≡ cell_at g cells.now (Some x) y shift }
+        (x : ℕ) → x < sides.width
+        → slice_index result.now x ≡ cell_at g cells.now (Some x) y shift }
 {
     match moved(sides.wrap, sides.height, y, shift) {
         Some(row) => &cells[row * sides.width..(row + 1) * sides.width],
@@ -148,7 +149,8 @@ fn write_row(
     requires sums { length sums.old ≡ sides.width + 2 }
     requires keys { length keys.old ≡ sides.width }
     requires room { length next.old ≡ length cells.now }
-    ensures { let g = square_of sides.wrap sides.width sides.height in (C : Counts) → IsTableOf C table.now
+    ensures { let g = square_of sides.wrap sides.width sides.height in
+        (C : Counts) → IsTableOf C table.now
         → AreNextBelow C g cells.now next.old (y * sides.width)
         → AreNextBelow C g cells.now next.new ((y + 1) * sides.width) }
 {
@@ -180,7 +182,8 @@ pub fn write_step(
     requires sums { length sums.old ≡ sides.width + 2 }
     requires keys { length keys.old ≡ sides.width }
     requires room { length next.old ≡ length cells.now }
-    ensures { let g = square_of sides.wrap sides.width sides.height in (C : Counts) → IsTableOf C table.now
+    ensures { let g = square_of sides.wrap sides.width sides.height in
+        (C : Counts) → IsTableOf C table.now
         → next.new ≡ map (moore_next C g (shown g cells.now)) (sites g) }
 {
     for y in 0..sides.height {

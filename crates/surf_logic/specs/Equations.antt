@@ -39,7 +39,8 @@ some_matches rows values = list_any (λ row. row_matches row values) rows
 -- the output's value at these values of the inputs; without rows it is false
 abbrev pub value_of : List (List Literal) → Bool → List Bool → Bool
 value_of [] polarity values = false
-value_of (row ∷ rows) polarity values = if polarity then some_matches (row ∷ rows) values else not (some_matches (row ∷ rows) values)
+value_of (row ∷ rows) polarity values =
+    if polarity then some_matches (row ∷ rows) values else not (some_matches (row ∷ rows) values)
 
 -- the assignment satisfies the equation
 abbrev pub Satisfies : {N : Type 0} → (N → Bool) → EquationOf N → Type 0
@@ -75,7 +76,8 @@ at values n = slice_index_or values n false
 -- the values after the equations were evaluated one after another
 abbrev pub evaluated : List Bool → List (EquationOf ℕ) → List Bool
 evaluated values [] = values
-evaluated values (q ∷ qs) = evaluated (slice_set values q.output (value_of q.rows q.polarity (map (at values) q.inputs))) qs
+evaluated values (q ∷ qs) =
+    evaluated (slice_set values q.output (value_of q.rows q.polarity (map (at values) q.inputs))) qs
 
 -- the values with these bits at these names
 abbrev pub placed : List Bool → List ℕ → List Bool → List Bool

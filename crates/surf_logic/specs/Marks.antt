@@ -42,7 +42,8 @@ abbrev pub ArePassed : List Bool → List (EquationOf ℕ) → List ℕ → Type
 ArePassed flags [] [] = Unit {0}
 ArePassed flags [] (count ∷ counts) = ⊥
 ArePassed flags (q ∷ qs) [] = ⊥
-ArePassed flags (q ∷ qs) (count ∷ counts) = IsPassed flags q.inputs count × ArePassed flags qs counts
+ArePassed flags (q ∷ qs) (count ∷ counts) =
+    IsPassed flags q.inputs count × ArePassed flags qs counts
 
 abbrev pub fault_of : Flaw → Fault ℕ
 fault_of (flaws.DeclaredTwice n) = DeclaredTwice n
@@ -52,14 +53,17 @@ fault_of flaws.NoOutputs = NoOutputs
 fault_of (flaws.Cycle n) = Cycle n
 
 abbrev pub undriven_by : List Bool → PartsOf ℕ → Option ℕ
-undriven_by flags p = or_else (missing_by flags (inputs_of p.equations)) (missing_by flags p.outputs)
+undriven_by flags p =
+    or_else (missing_by flags (inputs_of p.equations)) (missing_by flags p.outputs)
 
 -- the first of the faults that flags show
 abbrev pub flags_fault : List Bool → List Bool → PartsOf ℕ → Option (Fault ℕ)
 flags_fault driven seen p =
-    or_else (option_map DeclaredTwice (or_else (twice_by driven p.inputs) (twice_by seen p.outputs)))
+    or_else (option_map DeclaredTwice (or_else (twice_by driven p.inputs)
+    (twice_by seen p.outputs)))
     (or_else (option_map DrivenTwice (twice_by (marked driven p.inputs) (outputs_of p.equations)))
-    (or_else (option_map Undriven (undriven_by (marked (marked driven p.inputs) (outputs_of p.equations)) p))
+    (or_else (option_map Undriven
+    (undriven_by (marked (marked driven p.inputs) (outputs_of p.equations)) p))
     (no_outputs p.outputs)))
 
 -- the number of the name is in range
@@ -77,11 +81,14 @@ fresh flags (n ∷ ns) = if at flags n then fresh flags ns else n ∷ fresh (sli
 
 -- beside each name the names that it is given from
 pub record AreSources (qs : List (EquationOf ℕ)) (sources : List (List ℕ)) : Type 0 where
-  pub is : (n m : ℕ) → n < length sources → has nat_eq (slice_index_or sources n []) m ≡ list_any (is_from nat_eq n m) qs
+  pub is : (n m : ℕ) → n < length sources → has nat_eq (slice_index_or sources n []) m
+      ≡ list_any (is_from nat_eq n m) qs
 
 -- the sources with those of one equation more, and of all in a list
 abbrev pub added : List (List ℕ) → EquationOf ℕ → List (List ℕ)
-added sources q = slice_set sources q.output (slice_index_or sources q.output [] ++ fresh (replicate (length sources) false) q.inputs)
+added sources q =
+    slice_set sources q.output (slice_index_or sources q.output []
+    ++ fresh (replicate (length sources) false) q.inputs)
 
 abbrev pub all_added : List (List ℕ) → List (EquationOf ℕ) → List (List ℕ)
 all_added sources [] = sources

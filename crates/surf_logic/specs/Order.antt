@@ -28,7 +28,8 @@ inputs_of qs = flat_map (λ q. q.inputs) qs
 abbrev pub is_from : {N : Type 0} → (N → N → Bool) → N → N → EquationOf N → Bool
 is_from eq n m q = eq q.output n && has eq q.inputs m
 
--- n is given by an equation from m; by an equation from the first name of a list, that from the next, and the last from m
+-- n is given by an equation from m; by an equation from the first name of a list, that from the
+-- next, and the last from m
 abbrev pub GivenBy : {N : Type 0} → (N → N → Bool) → List (EquationOf N) → N → List N → N → Type 0
 GivenBy eq qs n [] m = list_any (is_from eq n m) qs ≡ true
 GivenBy eq qs n (k ∷ ks) m = (list_any (is_from eq n k) qs ≡ true) × GivenBy eq qs k ks m
@@ -40,7 +41,8 @@ DependsOn {N} eq qs n m = (ks : List N) × GivenBy eq qs n ks m
 -- n is the first of the names that depends on itself
 abbrev pub FirstCyclic : {N : Type 0} → (N → N → Bool) → List (EquationOf N) → List N → N → Type 0
 FirstCyclic eq qs [] n = ⊥
-FirstCyclic eq qs (k ∷ ks) n = ((k ≡ n) × DependsOn eq qs k k) ⊎ ((DependsOn eq qs k k → ⊥) × FirstCyclic eq qs ks n)
+FirstCyclic eq qs (k ∷ ks) n =
+    ((k ≡ n) × DependsOn eq qs k k) ⊎ ((DependsOn eq qs k k → ⊥) × FirstCyclic eq qs ks n)
 
 -- it isn't so that no equation depends on itself
 abbrev pub SomeCyclic : List (EquationOf ℕ) → Type 0
@@ -68,7 +70,8 @@ abbrev pub driven_twice : {N : Type 0} → (N → N → Bool) → PartsOf N → 
 driven_twice eq p = first_twice eq p.inputs (outputs_of p.equations)
 
 abbrev pub undriven : {N : Type 0} → (N → N → Bool) → PartsOf N → Option N
-undriven eq p = first_missing eq (p.inputs ++ outputs_of p.equations) (inputs_of p.equations ++ p.outputs)
+undriven eq p =
+    first_missing eq (p.inputs ++ outputs_of p.equations) (inputs_of p.equations ++ p.outputs)
 
 -- the first of the faults that lists show
 abbrev pub list_fault : {N : Type 0} → (N → N → Bool) → PartsOf N → Option (Fault N)
@@ -80,7 +83,8 @@ list_fault eq p =
 
 -- the fault of the parts
 abbrev pub HasFault : {N : Type 0} → (N → N → Bool) → PartsOf N → Fault N → Type 0
-HasFault eq p (Cycle n) = (list_fault eq p ≡ None) × FirstCyclic eq p.equations (outputs_of p.equations) n
+HasFault eq p (Cycle n) =
+    (list_fault eq p ≡ None) × FirstCyclic eq p.equations (outputs_of p.equations) n
 HasFault eq p (DeclaredTwice n) = list_fault eq p ≡ Some (DeclaredTwice n)
 HasFault eq p (DrivenTwice n) = list_fault eq p ≡ Some (DrivenTwice n)
 HasFault eq p (Undriven n) = list_fault eq p ≡ Some (Undriven n)
@@ -91,7 +95,8 @@ abbrev pub is_ready : {N : Type 0} → (N → N → Bool) → List N → Equatio
 is_ready eq known q = list_all (has eq known) q.inputs
 
 -- one turn: the first equation that is ready is taken out
-pub record Turn {N : Type 0} (eq : N → N → Bool) (known : List N) (rest : List (EquationOf N)) (q : EquationOf N) (left : List (EquationOf N)) : Type 0 where
+pub record Turn {N : Type 0} (eq : N → N → Bool) (known : List N) (rest : List (EquationOf N))
+    (q : EquationOf N) (left : List (EquationOf N)) : Type 0 where
   pub before : List (EquationOf N)
   pub after : List (EquationOf N)
   pub splits : rest ≡ before ++ q ∷ after
@@ -100,9 +105,11 @@ pub record Turn {N : Type 0} (eq : N → N → Bool) (known : List N) (rest : Li
   pub ready : is_ready eq known q ≡ true
 
 -- the equations taken in turns until none is ready, and those left then
-abbrev pub Turns : {N : Type 0} → (N → N → Bool) → List N → List (EquationOf N) → List (EquationOf N) → List (EquationOf N) → Type 0
+abbrev pub Turns : {N : Type 0} → (N → N → Bool) → List N → List (EquationOf N) →
+    List (EquationOf N) → List (EquationOf N) → Type 0
 Turns eq known rest [] left = (rest ≡ left) × (list_any (is_ready eq known) rest ≡ false)
-Turns {N} eq known rest (q ∷ qs) left = (next : List (EquationOf N)) × Turn eq known rest q next × Turns eq (q.output ∷ known) next qs left
+Turns {N} eq known rest (q ∷ qs) left = (next : List (EquationOf N)) × Turn eq known rest q next
+    × Turns eq (q.output ∷ known) next qs left
 
 -- each equation uses known names and earlier outputs only
 abbrev pub Ordered : {N : Type 0} → (N → N → Bool) → List N → List (EquationOf N) → Type 0

@@ -1,3 +1,4 @@
+// Circuits: equations in an order in which they can be solved.
 ghost use Rattle.std.specs.Prelude.{◌≡◌, ◌+◌, ◌<◌, ◌^◌, min, ◌-◌, length};
 ghost use Rattle.surf_logic.specs.Equations.{cost_of};
 ghost use Rattle.surf_logic.specs.Order.{IsCircuit};

@@ -22,7 +22,8 @@ fn depends_on_itself(
     requires range { All (All (λ n. n < length sources.now)) sources.now }
     requires name { name < length reached.old }
     requires marks { Marks reached.old [] }
-    ensures { IfOk result (λ b. (qs : List (EquationOf ℕ)) → AreSources qs sources.now → Tells qs name b) }
+    ensures { IfOk result
+        (λ b. (qs : List (EquationOf ℕ)) → AreSources qs sources.now → Tells qs name b) }
 {
     let mut waiting = vec![in alloc; name].map_err(|_| NoMemory)?;
     while let Some(next) = waiting.pop() {

@@ -1,3 +1,4 @@
+// Equations: an output and the cover that says when it is true.
 ghost use Rattle.std.specs.Prelude.{◌≡◌, ◌^◌, ◌-◌, min};
 ghost use Rattle.surf_logic.specs.Equations.{cost_of};
 
@@ -56,7 +57,13 @@ impl Model for Equation {
 
     ghost Value = { EquationOf ℕ };
 
-    ghost view = { λ q. record { output = q.output; inputs = q.inputs.items; rows = q.rows.items; polarity = q.polarity } };
+    ghost view = { λ q.
+        record {
+          output = q.output;
+          inputs = q.inputs.items;
+          rows = q.rows.items;
+          polarity = q.polarity;
+        } };
 }
 
 impl Equation {
@@ -103,7 +110,15 @@ impl Model for Parts {
 
     ghost Value = { Numbered };
 
-    ghost view = { λ p. record { names = p.names; parts = record { inputs = p.inputs.items; outputs = p.outputs.items; equations = p.equations.items } } };
+    ghost view = { λ p.
+        record {
+          names = p.names;
+          parts = record {
+            inputs = p.inputs.items;
+            outputs = p.outputs.items;
+            equations = p.equations.items;
+          };
+        } };
 }
 
 impl Parts {

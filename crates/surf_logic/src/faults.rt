@@ -126,7 +126,8 @@ fn flaw_by(parts: &Parts, driven: &mut [bool], seen: &mut [bool]) -> Option<Flaw
 // The first of the faults that lists show.
 pub(crate) fn list_flaw(alloc: Global, parts: &Parts) -> Result<Option<Flaw>, NoMemory>
     requires range { InRange parts.now }
-    ensures is { IfOk result (λ flaw. option_map fault_of flaw ≡ list_fault nat_eq parts.now.parts) }
+    ensures is { IfOk result
+        (λ flaw. option_map fault_of flaw ≡ list_fault nat_eq parts.now.parts) }
     ensures within { IfOk result (λ flaw. IfSome flaw (FlawIn (length parts.now.names))) }
 {
     let count = parts.names().len() as usize;

@@ -1,3 +1,4 @@
+// What numbering the names keeps.
 ghost use Rattle.surf_logic.specs.Renamed.{FaultsAreNamed, OrdersAreSound, OrdersAreNamed, OrdersCostTheSame, NamesCostNothing, ValuesAreNamed};
 
 /// What holds of numbered parts holds of the parts over the texts of their names: their faults, the

@@ -100,7 +100,8 @@ pub(crate) fn sources_of(
     equations: &[Equation],
 ) -> Result<Vec<Sources>, NoMemory>
     requires { All (EquationInRange count) equations.now }
-    ensures { IfOk result (λ sources. sources.items ≡ all_added (replicate count []) equations.now) }
+    ensures { IfOk result
+        (λ sources. sources.items ≡ all_added (replicate count []) equations.now) }
 {
     let mut sources = no_sources(alloc, count)?;
     add_all(alloc, equations, &mut sources)?;

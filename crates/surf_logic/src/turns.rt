@@ -51,7 +51,8 @@ fn text(alloc: Global, names: &Names, id: u32) -> Result<Text, NoMemory>
 // A flaw with the text of its name.
 fn named(alloc: Global, names: &Names, flaw: Flaw) -> Result<CircuitError, NoMemory>
     requires { FlawIn (length names.now) flaw }
-    ensures { IfOk result (λ e. told_fault e ≡ Some (map_fault (text_of names.now) (fault_of flaw))) }
+    ensures { IfOk result
+        (λ e. told_fault e ≡ Some (map_fault (text_of names.now) (fault_of flaw))) }
 {
     Ok(match flaw {
         Flaw::DeclaredTwice(id) => CircuitError::DeclaredTwice(text(alloc, names, id)?),
@@ -82,7 +83,8 @@ fn take_turns(
 ) -> Result<Vec<Equation>, NoMemory>
     requires range { All (EquationInRange (length known.old)) rest.old.items }
     requires marks { Marks known.old names.now }
-    ensures turns { IfOk result (λ taken. Turns nat_eq names.now rest.old.items taken.items rest.new.items) }
+    ensures turns { IfOk result
+        (λ taken. Turns nat_eq names.now rest.old.items taken.items rest.new.items) }
     ensures range { IfOk result (λ _. All (EquationInRange (length known.old)) rest.new.items) }
 {
     let mut passed = vec![in alloc; 0; rest.len()].map_err(|_| NoMemory)?;
@@ -101,7 +103,8 @@ fn turns_by(
     requires range { All (EquationInRange (length known.old)) rest.old.items }
     requires marks { Marks known.old names.now }
     requires passed { ArePassed known.old rest.old.items passed.old.items }
-    ensures turns { IfOk result (λ taken. Turns nat_eq names.now rest.old.items taken.items rest.new.items) }
+    ensures turns { IfOk result
+        (λ taken. Turns nat_eq names.now rest.old.items taken.items rest.new.items) }
     ensures range { IfOk result (λ _. All (EquationInRange (length known.old)) rest.new.items) }
 {
     let mut taken = Vec::new(alloc);
@@ -177,7 +180,8 @@ fn taken_of(
     requires inputs { All (λ n. n < count) inputs.now }
     requires once { first_twice nat_eq [] inputs.now ≡ None }
     requires range { All (EquationInRange count) rest.old.items }
-    ensures turns { IfOk result (λ taken. Turns nat_eq inputs.now rest.old.items taken.items rest.new.items) }
+    ensures turns { IfOk result
+        (λ taken. Turns nat_eq inputs.now rest.old.items taken.items rest.new.items) }
     ensures range { IfOk result (λ _. All (EquationInRange count) rest.new.items) }
 {
     let mut known = vec![in alloc; false; count].map_err(|_| NoMemory)?;
@@ -195,7 +199,8 @@ fn first_turns(
     requires once { first_twice nat_eq [] inputs.now ≡ None }
     requires range { All (EquationInRange (length known.old)) rest.old.items }
     requires marks { Marks known.old [] }
-    ensures turns { IfOk result (λ taken. Turns nat_eq inputs.now rest.old.items taken.items rest.new.items) }
+    ensures turns { IfOk result
+        (λ taken. Turns nat_eq inputs.now rest.old.items taken.items rest.new.items) }
     ensures range { IfOk result (λ _. All (EquationInRange (length known.old)) rest.new.items) }
 {
     mark(known, inputs);

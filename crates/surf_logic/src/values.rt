@@ -124,7 +124,8 @@ fn answer(
 ) -> Result<Vec<bool>, EvalError>
     requires bits { length bits.now ≡ length circuit.now.parts.inputs }
     requires values { length values.old ≡ length circuit.now.names }
-    ensures { MatchResult result (λ v. IsEval circuit.now bits.now v.items) (HasEvalFault circuit.now bits.now) }
+    ensures { MatchResult result
+        (λ v. IsEval circuit.now bits.now v.items) (HasEvalFault circuit.now bits.now) }
 {
     place(circuit.inputs(), bits, values);
     run(circuit.equations(), values);
@@ -134,7 +135,8 @@ fn answer(
 /// The values of the outputs in order, where the inputs have these bits in order. `Length` exactly
 /// where there are not as many bits as inputs.
 pub fn eval(alloc: Global, circuit: &Circuit, bits: &[bool]) -> Result<Vec<bool>, EvalError>
-    ensures { MatchResult result (λ v. IsEval circuit.now bits.now v.items) (HasEvalFault circuit.now bits.now) }
+    ensures { MatchResult result
+        (λ v. IsEval circuit.now bits.now v.items) (HasEvalFault circuit.now bits.now) }
 {
     let wanted = circuit.inputs().len();
     if bits.len() != wanted {

@@ -197,7 +197,8 @@ close_fault n p (Some q) = if is_block p q then None else Some (faults.BadLine n
 
 -- each row is as long as the first
 abbrev pub row_fault : ℕ → Parts → List (List ℕ) → Option ManifestError
-row_fault n p names = if (p.height == 0) || (length names == p.width) then None else Some (faults.Ragged n)
+row_fault n p names =
+    if (p.height == 0) || (length names == p.width) then None else Some (faults.Ragged n)
 
 abbrev pub item_fault : ℕ → Parts → Result Item ManifestError → Option ManifestError
 item_fault n p (Err f) = Some f
@@ -242,7 +243,8 @@ manifest_from has_colours p = record {
   colormap = if has_colours then Some p.colours else None;
 }
 
-abbrev pub unless_fault : {M : Type 0} → Option ManifestError → Result M ManifestError → Result M ManifestError
+abbrev pub unless_fault : {M : Type 0} → Option ManifestError → Result M ManifestError →
+    Result M ManifestError
 unless_fault None r = r
 unless_fault (Some f) r = Err f
 

@@ -52,7 +52,8 @@ setting_of n key value =
 
 abbrev pub option_from : ℕ → List ℕ → Option (List ℕ) → Result Item ManifestError
 option_from n key None = Err (BadLine n)
-option_from n key (Some value) = if is_word key then setting_of n key (trimmed value) else Err (BadLine n)
+option_from n key (Some value) =
+    if is_word key then setting_of n key (trimmed value) else Err (BadLine n)
 
 abbrev pub option_of : ℕ → List ℕ → Result Item ManifestError
 option_of n t = option_from n (trimmed (before 61 t)) (after 61 t)
@@ -72,7 +73,9 @@ fraction_value (Some ds) = millionths 100000 ds
 
 abbrev pub rate_parts : List ℕ → Option (List ℕ) → Option ℕ
 rate_parts whole part =
-    if is_digits whole && (is_fraction part && nat_le (value_from 0 whole * 1000000 + fraction_value part) 1000000000000)
+    if is_digits whole
+    && (is_fraction part && nat_le (value_from 0 whole * 1000000 + fraction_value part)
+    1000000000000)
     then Some (value_from 0 whole * 1000000 + fraction_value part)
     else None
 
@@ -96,7 +99,13 @@ rule_of_tokens rate (a ∷ arrow ∷ c ∷ []) =
     else None
 rule_of_tokens rate (a ∷ plus ∷ b ∷ arrow ∷ c ∷ also ∷ d ∷ []) =
     if two_test a plus b arrow c also d
-    then Some (record { rate = rate; left = a; right = Some b; left_after = c; right_after = Some d })
+    then Some (record {
+      rate = rate;
+      left = a;
+      right = Some b;
+      left_after = c;
+      right_after = Some d;
+    })
     else None
 rule_of_tokens rate ts = None
 
@@ -119,7 +128,8 @@ bracketed_rule n inside (Some rest) = rated_rule n (rate_of (trimmed inside)) (t
 abbrev pub rule_line_of : ℕ → List ℕ → Result Item ManifestError
 rule_line_of n [] = Err (BadRule n)
 rule_line_of n (b ∷ bs) =
-    if b == 40 then bracketed_rule n (before 41 bs) (after 41 bs) else rule_from n 1000000 (tokens_of (b ∷ bs))
+    if b == 40 then bracketed_rule n (before 41 bs) (after 41 bs)
+    else rule_from n 1000000 (tokens_of (b ∷ bs))
 
 abbrev pub row_of : ℕ → List (List ℕ) → Result Item ManifestError
 row_of n ts = if list_all is_name ts then Ok (Row ts) else Err (BadLine n)

@@ -1,4 +1,5 @@
--- What a reader keeps of the lines so far: rules and sites within the limits, and the numbers of all of them.
+-- What a reader keeps of the lines so far: rules and sites within the limits, and the numbers of
+-- all of them.
 use Rattle.std.specs.Prelude.{ℕ, ◌+◌, ◌-◌, Bool, false, not, ◌&&◌, ◌||◌, ◌==◌, nat_lt, List, [], ◌∷◌, ◌++◌, length, take, Option, Some, None, is_some, Result, Ok, Err, if◌then◌else◌}
 use Rattle.surf_lattice.specs.declared.site.GridKind.{GridKind}
 use Rattle.surf_lattice.specs.declared.site.GridKind.TheVariants.{Square}
@@ -137,7 +138,8 @@ after_line s (Opens p) = counted (opened_block s p)
 after_line s (Closes p) = counted (record s { block = None })
 after_line s Includes = counted s
 after_line s Unknown = counted s
-after_line s (Content t) = counted (record s { held = holding_result s.held (item_of s.number s.block t) })
+after_line s (Content t) =
+    counted (record s { held = holding_result s.held (item_of s.number s.block t) })
 
 -- after all of these lines
 abbrev pub after_lines : Reached → List Line → Reached
@@ -161,7 +163,8 @@ end_fault s h =
     else None))))))
 
 abbrev pub finished : Reached → Result ManifestText ManifestError
-finished s = unless_fault (end_fault s s.held) (Ok (manifest_from s.has_colours (parts_held s.held)))
+finished s =
+    unless_fault (end_fault s s.held) (Ok (manifest_from s.has_colours (parts_held s.held)))
 
 -- the steps of all lines, up to the first fault
 abbrev pub read_on : Reached → List Line → Result ManifestText ManifestError

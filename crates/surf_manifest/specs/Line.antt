@@ -13,7 +13,8 @@ block_number Colormap = 2
 abbrev pub is_block : BlockKind → BlockKind → Bool
 is_block p q = block_number p == block_number q
 
--- empty or a comment, a block's start or end, an inclusion, another mark, or content without the blanks at its ends
+-- empty or a comment, a block's start or end, an inclusion, another mark, or content without the
+-- blanks at its ends
 pub data Line : Type 0 where
   Skipped : Line
   Opens : BlockKind → Line
@@ -43,7 +44,8 @@ is_comment_sign b = (b == 35) || (b == 37)
 
 abbrev pub line_of_text : List ℕ → Line
 line_of_text [] = Skipped
-line_of_text (b ∷ bs) = if is_comment_sign b then Skipped else (if b == 33 then mark_of (b ∷ bs) else Content (b ∷ bs))
+line_of_text (b ∷ bs) =
+    if is_comment_sign b then Skipped else (if b == 33 then mark_of (b ∷ bs) else Content (b ∷ bs))
 
 abbrev pub line_of : List ℕ → Line
 line_of bytes = line_of_text (trimmed bytes)

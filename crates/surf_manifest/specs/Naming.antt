@@ -37,7 +37,8 @@ line_names n block Unknown = []
 -- the names of lines, one line after another, where these lines stand above
 abbrev pub names_from : List Line → List Line → List (List ℕ)
 names_from above [] = []
-names_from above (l ∷ ls) = line_names (line_number above) (block_of above) l ++ names_from (l ∷ above) ls
+names_from above (l ∷ ls) =
+    line_names (line_number above) (block_of above) l ++ names_from (l ∷ above) ls
 
 -- texts with others behind them, each where it comes first
 abbrev pub with_texts : List (List ℕ) → List (List ℕ) → List (List ℕ)

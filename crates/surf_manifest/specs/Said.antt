@@ -14,8 +14,16 @@ item_of_setting (settings.Wrap b) = items.Wrap b
 item_of_setting (settings.Kept key value) = items.Kept (record { key = key.now; value = value.now })
 
 abbrev pub rule_of_sides : ℕ → Sides → systems.Rule (List ℕ)
-rule_of_sides rate (One a c) = record { rate = rate; left = a.now; right = None; left_after = c.now; right_after = None }
-rule_of_sides rate (Two a b c d) = record { rate = rate; left = a.now; right = Some b.now; left_after = c.now; right_after = Some d.now }
+rule_of_sides rate (One a c) =
+    record { rate = rate; left = a.now; right = None; left_after = c.now; right_after = None }
+rule_of_sides rate (Two a b c d) =
+    record {
+      rate = rate;
+      left = a.now;
+      right = Some b.now;
+      left_after = c.now;
+      right_after = Some d.now;
+    }
 
 abbrev pub rule_of_line : RuleLine → systems.Rule (List ℕ)
 rule_of_line r = rule_of_sides r.rate r.sides

@@ -13,7 +13,12 @@ with_part p (Geometry k) = record p { kind = k }
 with_part p (Wrap b) = record p { wrap = b }
 with_part p (Kept o) = record p { options = p.options ++ o ∷ [] }
 with_part p (Rule r) = record p { rules = p.rules ++ r ∷ [] }
-with_part p (Row names) = record p { width = if p.height == 0 then length names else p.width; height = p.height + 1; start = p.start ++ names }
+with_part p (Row names) =
+    record p {
+      width = if p.height == 0 then length names else p.width;
+      height = p.height + 1;
+      start = p.start ++ names;
+    }
 with_part p (Colour t) = record p { colours = p.colours ++ t ∷ [] }
 
 abbrev pub with_result : Parts → Result Item ManifestError → Parts
@@ -33,7 +38,8 @@ next c (Opens p) = record c {
 next c (Closes p) = record c { number = c.number + 1; block = None }
 next c Includes = record c { number = c.number + 1 }
 next c Unknown = record c { number = c.number + 1 }
-next c (Content t) = record c { number = c.number + 1; parts = with_result c.parts (item_of c.number c.block t) }
+next c (Content t) =
+    record c { number = c.number + 1; parts = with_result c.parts (item_of c.number c.block t) }
 
 abbrev pub nothing : Known
 nothing = record {
@@ -43,7 +49,16 @@ nothing = record {
   has_rules = false;
   has_state = false;
   has_colours = false;
-  parts = record { kind = Square; wrap = false; options = []; rules = []; width = 0; height = 0; start = []; colours = [] };
+  parts = record {
+    kind = Square;
+    wrap = false;
+    options = [];
+    rules = [];
+    width = 0;
+    height = 0;
+    start = [];
+    colours = [];
+  };
 }
 
 -- the step of one line

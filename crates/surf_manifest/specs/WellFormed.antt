@@ -23,7 +23,8 @@ begins_content (b ∷ bs) = not (is_comment_sign b || (b == 33))
 abbrev pub is_option : OptionLine → Bool
 is_option o =
     (is_word o.key && (begins_content o.key && lacks 61 o.key))
-    && (not (bytes_eq o.key (codes "geometry")) && (not (bytes_eq o.key (codes "wrap")) && is_text o.value))
+    && (not (bytes_eq o.key (codes "geometry")) && (not (bytes_eq o.key (codes "wrap"))
+    && is_text o.value))
 
 abbrev pub is_colour : List ℕ → Bool
 is_colour t = begins_content t && is_text t
@@ -52,7 +53,8 @@ pub record IsWellFormed (m : ManifestText) : Type 0 where
   pub height : 1 ≤ m.system.surface.grid.height
   pub sites : length m.system.start ≡ m.system.surface.grid.width * m.system.surface.grid.height
   pub few_sites : length m.system.start ≤ 33554432
-  pub joined : m.system.surface.grid.wrap ≡ true → (3 ≤ m.system.surface.grid.width) × (3 ≤ m.system.surface.grid.height)
+  pub joined : m.system.surface.grid.wrap ≡ true → (3 ≤ m.system.surface.grid.width)
+      × (3 ≤ m.system.surface.grid.height)
   pub names : list_all is_name m.system.start ≡ true
   pub colours : are_colours m.colormap ≡ true
 

@@ -1,3 +1,4 @@
+// Why a text is no manifest.
 use thiserror::Error;
 
 /// A block that every manifest has.

@@ -1,3 +1,4 @@
+// Manifests that were read.
 ghost use Rattle.std.specs.Prelude.{◌≡◌, MatchOption, None, Some, length, map};
 ghost use Rattle.surf_lattice.specs.AnyGrid.{grid_of};
 ghost use Rattle.surf_manifest.specs.Drafts.{NamesBelow, RulesBelow, named_rule};

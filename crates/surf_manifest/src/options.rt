@@ -1,3 +1,4 @@
+// Options that are kept as text.
 use surf_base::Text;
 
 /// An option that is kept as text.

@@ -76,13 +76,15 @@ abbrev pub with_events : LegendParts → Option ℕ → ℕ → Option LegendPar
 with_events p None n = Some (record { inputs = p.inputs; outputs = p.outputs; events = Some n })
 with_events p (Some m) n = None
 
--- with one more line, unless it is faulty, a second line of events, or an input at the site of an input above it
+-- with one more line, unless it is faulty, a second line of events, or an input at the site of an
+-- input above it
 abbrev pub with_line : LegendParts → LegendLine → Option LegendParts
 with_line p Other = Some p
 with_line p (Input q) =
     if has_site p.inputs q.site then None
     else Some (record { inputs = p.inputs ++ q ∷ []; outputs = p.outputs; events = p.events })
-with_line p (Output q) = Some (record { inputs = p.inputs; outputs = p.outputs ++ q ∷ []; events = p.events })
+with_line p (Output q) =
+    Some (record { inputs = p.inputs; outputs = p.outputs ++ q ∷ []; events = p.events })
 with_line p (Events n) = with_events p p.events n
 with_line p Faulty = None
 
@@ -90,14 +92,16 @@ abbrev pub legend_from : List Place → List Place → Option ℕ → Result Leg
 legend_from inputs outputs None = Err NoLegend
 legend_from inputs outputs (Some n) = Ok (record { inputs = inputs; outputs = outputs; events = n })
 
-abbrev pub unless_bad : {A : Type 0} → Option A → ℕ → (A → Result LegendText LegendError) → Result LegendText LegendError
+abbrev pub unless_bad : {A : Type 0} → Option A → ℕ → (A → Result LegendText LegendError) →
+    Result LegendText LegendError
 unless_bad None line more = Err (BadLegend line)
 unless_bad (Some p) line more = more p
 
 -- the legend of these lines, where so many lines stand above them and say this
 abbrev pub legend_in : ℕ → LegendParts → List (List ℕ) → Result LegendText LegendError
 legend_in line p [] = legend_from p.inputs p.outputs p.events
-legend_in line p (l ∷ ls) = unless_bad (with_line p (legend_line l)) (line + 1) (λ q. legend_in (line + 1) q ls)
+legend_in line p (l ∷ ls) =
+    unless_bad (with_line p (legend_line l)) (line + 1) (λ q. legend_in (line + 1) q ls)
 
 -- the legend of a text, or its first fault; lines are counted from 1
 abbrev pub legend_of : List ℕ → Result LegendText LegendError
@@ -111,5 +115,6 @@ LegendRefuses r NoMemory = Unit {0}
 
 -- what is printed with a legend has that legend
 abbrev pub ReadsLegend : Type 0
-ReadsLegend = (m : ManifestText) (l : LegendText) → IsWellFormed m → IsLegend (Some l) → AreApart l.inputs →
+ReadsLegend =
+    (m : ManifestText) (l : LegendText) → IsWellFormed m → IsLegend (Some l) → AreApart l.inputs →
     legend_of (print_of m (Some l)) ≡ Ok l

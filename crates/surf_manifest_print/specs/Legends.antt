@@ -24,7 +24,8 @@ is_place p = is_word p.name && (nat_lt p.site.x (2 ^ 32) && nat_lt p.site.y (2 ^
 
 abbrev pub IsLegend : Option LegendText → Type 0
 IsLegend None = Unit {0}
-IsLegend (Some l) = (list_all is_place l.inputs ≡ true) × (list_all is_place l.outputs ≡ true) × (l.events < 2 ^ 64)
+IsLegend (Some l) =
+    (list_all is_place l.inputs ≡ true) × (list_all is_place l.outputs ≡ true) × (l.events < 2 ^ 64)
 
 -- some place has this site
 abbrev pub has_site : List Place → Site → Bool
@@ -32,4 +33,5 @@ has_site ps s = list_any (λ p. (p.site.x == s.x) && (p.site.y == s.y)) ps
 
 -- no two places have one site
 abbrev pub AreApart : List Place → Type 0
-AreApart ps = (i j : ℕ) (p q : Place) → slice_get ps i ≡ Some p → slice_get ps j ≡ Some q → p.site ≡ q.site → i ≡ j
+AreApart ps = (i j : ℕ) (p q : Place) → slice_get ps i ≡ Some p → slice_get ps j ≡ Some q →
+    p.site ≡ q.site → i ≡ j

@@ -16,7 +16,8 @@ use Rattle.surf_manifest_print.specs.Legends.{LegendText, IsLegend}
 -- six digits
 abbrev pub six_digits : ℕ → List ℕ
 six_digits m =
-    (48 + m / 100000) ∷ (48 + m / 10000 % 10) ∷ (48 + m / 1000 % 10) ∷ (48 + m / 100 % 10) ∷ (48 + m / 10 % 10) ∷ (48 + m % 10) ∷ []
+    (48 + m / 100000) ∷ (48 + m / 10000 % 10) ∷ (48 + m / 1000 % 10) ∷ (48 + m / 100 % 10)
+    ∷ (48 + m / 10 % 10) ∷ (48 + m % 10) ∷ []
 
 -- a point and the digits of the millionths without zeros at the end, unless there are none
 abbrev pub fraction_text : ℕ → List ℕ
@@ -51,7 +52,8 @@ abbrev pub site_text : Site → List ℕ
 site_text s = spaced (decimal s.x ∷ decimal s.y ∷ [])
 
 abbrev pub place_text : List ℕ → Place → List ℕ
-place_text word p = spaced (codes "#" ∷ codes "surf" ∷ word ∷ p.name ∷ decimal p.site.x ∷ decimal p.site.y ∷ [])
+place_text word p =
+    spaced (codes "#" ∷ codes "surf" ∷ word ∷ p.name ∷ decimal p.site.x ∷ decimal p.site.y ∷ [])
 
 abbrev pub events_text : ℕ → List ℕ
 events_text n = spaced (codes "#" ∷ codes "surf" ∷ codes "events" ∷ decimal n ∷ [])
@@ -59,7 +61,8 @@ events_text n = spaced (codes "#" ∷ codes "surf" ∷ codes "events" ∷ decima
 abbrev pub legend_lines : Option LegendText → List (List ℕ)
 legend_lines None = []
 legend_lines (Some l) =
-    map (place_text (codes "input")) l.inputs ++ (map (place_text (codes "output")) l.outputs ++ (events_text l.events ∷ []))
+    map (place_text (codes "input")) l.inputs ++ (map (place_text (codes "output")) l.outputs
+    ++ (events_text l.events ∷ []))
 
 abbrev pub colour_lines : Option (List (List ℕ)) → List (List ℕ)
 colour_lines None = []
@@ -67,17 +70,22 @@ colour_lines (Some texts) = codes "!START_COLORMAP" ∷ (texts ++ (codes "!END_C
 
 abbrev pub state_block : ManifestText → List (List ℕ)
 state_block m =
-    codes "!START_INIT_STATE" ∷ (map spaced (rows_of m.system.surface.grid.width m.system.surface.grid.height m.system.start) ++ (codes "!END_INIT_STATE" ∷ []))
+    codes "!START_INIT_STATE"
+    ∷ (map spaced (rows_of m.system.surface.grid.width m.system.surface.grid.height
+    m.system.start) ++ (codes "!END_INIT_STATE" ∷ []))
 
 abbrev pub rule_block : ManifestText → List (List ℕ)
-rule_block m = codes "!START_TRANSITION_RULES" ∷ (map rule_text m.system.surface.rules ++ (codes "!END_TRANSITION_RULES" ∷ []))
+rule_block m =
+    codes "!START_TRANSITION_RULES" ∷ (map rule_text m.system.surface.rules
+    ++ (codes "!END_TRANSITION_RULES" ∷ []))
 
 abbrev pub block_lines : ManifestText → List (List ℕ)
 block_lines m = rule_block m ++ (state_block m ++ colour_lines m.colormap)
 
 abbrev pub print_lines : ManifestText → Option LegendText → List (List ℕ)
 print_lines m l =
-    legend_lines l ++ (geometry_text m.system.surface.grid.kind ∷ wrap_text m.system.surface.grid.wrap ∷ (map option_text m.options ++ block_lines m))
+    legend_lines l ++ (geometry_text m.system.surface.grid.kind
+    ∷ wrap_text m.system.surface.grid.wrap ∷ (map option_text m.options ++ block_lines m))
 
 -- the canonical text, with the legend's lines where one is given
 abbrev pub print_of : ManifestText → Option LegendText → List ℕ
@@ -85,7 +93,8 @@ print_of m l = ended (print_lines m l)
 
 -- the grammar reads what is printed
 abbrev pub ReadsPrint : Type 0
-ReadsPrint = (m : ManifestText) (l : Option LegendText) → IsWellFormed m → IsLegend l → manifest_of (print_of m l) ≡ Ok m
+ReadsPrint = (m : ManifestText) (l : Option LegendText) → IsWellFormed m → IsLegend l →
+    manifest_of (print_of m l) ≡ Ok m
 
 -- the canonical text of the manifest that a text spells
 abbrev pub formatted_manifest : Result ManifestText ManifestError → Result (List ℕ) ManifestError

@@ -1,3 +1,4 @@
+// Why a text has no legend.
 use thiserror::Error;
 
 /// Why a text has no legend. Lines are counted from 1.

@@ -21,7 +21,8 @@ gates_from next nets (q ∷ qs) =
 abbrev pub nets_from : (next : ℕ) → (nets : ℕ → ℕ) → List (EquationOf ℕ) → ℕ → ℕ
 nets_from next nets [] = nets
 nets_from next nets (q ∷ qs) =
-    let gates = gates_of_equation next nets q in nets_from (next + length gates) (with_net nets q.output (next + length gates - 1)) qs
+    let gates = gates_of_equation next nets q in
+    nets_from (next + length gates) (with_net nets q.output (next + length gates - 1)) qs
 
 -- the inputs have the nets from 0 on, in their order
 abbrev pub input_nets : (next : ℕ) → (names : List ℕ) → ℕ → ℕ
@@ -41,4 +42,6 @@ outputs_at N bits = map (value_in (net_meaning N bits)) N.outputs
 
 -- an equation makes so many gates, whatever its nets
 abbrev pub EquationsMakeGates : Type 0
-EquationsMakeGates = (next : ℕ) (nets : ℕ → ℕ) (q : EquationOf ℕ) → All (λ row. length row ≡ length q.inputs) q.rows → length (gates_of_equation next nets q) ≡ gate_count q
+EquationsMakeGates = (next : ℕ) (nets : ℕ → ℕ) (q : EquationOf ℕ) →
+    All (λ row. length row ≡ length q.inputs) q.rows → length (gates_of_equation next nets q)
+    ≡ gate_count q

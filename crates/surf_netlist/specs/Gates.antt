@@ -21,36 +21,43 @@ signed_literal literals.Any net = None
 
 -- the signed nets of a row, in the order of the inputs
 abbrev pub signed_row : (nets : ℕ → ℕ) → (inputs : List ℕ) → List Literal → List Signed
-signed_row nets (i ∷ is) (l ∷ row) = option_to_list (signed_literal l (nets i)) ++ signed_row nets is row
+signed_row nets (i ∷ is) (l ∷ row) =
+    option_to_list (signed_literal l (nets i)) ++ signed_row nets is row
 signed_row nets [] row = []
 signed_row nets (i ∷ is) [] = []
 
 -- the signs are part of the tables: `t01` is for a false first net and a true second, and so on
 abbrev pub and_gate : Signed → Signed → Gate
 and_gate a b =
-    Two (not a.positive && not b.positive) (not a.positive && b.positive) (a.positive && not b.positive) (a.positive && b.positive) a.net b.net
+    Two (not a.positive && not b.positive) (not a.positive && b.positive)
+    (a.positive && not b.positive) (a.positive && b.positive) a.net b.net
 
 abbrev pub or_gate : Signed → Signed → Gate
 or_gate a b =
-    Two (not a.positive || not b.positive) (not a.positive || b.positive) (a.positive || not b.positive) (a.positive || b.positive) a.net b.net
+    Two (not a.positive || not b.positive) (not a.positive || b.positive)
+    (a.positive || not b.positive) (a.positive || b.positive) a.net b.net
 
 -- gates, and the signed net that they give
 pub record Made : Type 0 where
   pub gates : List Gate
   pub result : Signed
 
--- the AND of what was made so far (first) and the next signed net (second), and so on. `next` is the net of the next gate
+-- the AND of what was made so far (first) and the next signed net (second), and so on. `next` is
+-- the net of the next gate
 abbrev pub and_chain : (next : ℕ) → (so_far : Signed) → List Signed → Made
 and_chain next so_far [] = record { gates = []; result = so_far }
 and_chain next so_far (s ∷ row) =
-    let rest = and_chain (next + 1) (plain next) row in record { gates = and_gate so_far s ∷ rest.gates; result = rest.result }
+    let rest = and_chain (next + 1) (plain next) row in
+    record { gates = and_gate so_far s ∷ rest.gates; result = rest.result }
 
--- a row with one signed net is that net and makes no gate. (A row with none is no matter: it makes the equation constant)
+-- a row with one signed net is that net and makes no gate. (A row with none is no matter: it makes
+-- the equation constant)
 abbrev pub row_made : (next : ℕ) → List Signed → Made
 row_made next [] = record { gates = []; result = plain 0 }
 row_made next (s ∷ row) = and_chain next s row
 
--- after the gates of each further row the OR of what was joined so far (first) and that row (second)
+-- after the gates of each further row the OR of what was joined so far (first) and that row
+-- (second)
 abbrev pub or_chain : (next : ℕ) → (so_far : Signed) → List (List Signed) → Made
 or_chain next so_far [] = record { gates = []; result = so_far }
 or_chain next so_far (row ∷ rows) =
@@ -62,21 +69,26 @@ or_chain next so_far (row ∷ rows) =
 abbrev pub rows_made : (next : ℕ) → (row : List Signed) → (rows : List (List Signed)) → Made
 rows_made next row rows =
     let made = row_made next row in
-    let rest = or_chain (next + length made.gates) made.result rows in record { gates = made.gates ++ rest.gates; result = rest.result }
+    let rest = or_chain (next + length made.gates) made.result rows in
+    record { gates = made.gates ++ rest.gates; result = rest.result }
 
 abbrev pub complement : Gate → Gate
 complement (Constant v) = Constant (not v)
 complement (One zero one input) = One (not zero) (not one) input
-complement (Two t00 t01 t10 t11 first second) = Two (not t00) (not t01) (not t10) (not t11) first second
+complement (Two t00 t01 t10 t11 first second) =
+    Two (not t00) (not t01) (not t10) (not t11) first second
 
 abbrev pub complement_last : List Gate → List Gate
 complement_last [] = []
 complement_last (g ∷ []) = complement g ∷ []
 complement_last (g ∷ h ∷ gates) = g ∷ complement_last (h ∷ gates)
 
--- where there is no gate, one of one input; else the table of the last one is complemented for polarity 0
+-- where there is no gate, one of one input; else the table of the last one is complemented for
+-- polarity 0
 abbrev pub finished : (polarity : Bool) → List Gate → Signed → List Gate
-finished polarity [] s = (if s.positive then One (not polarity) polarity s.net else One polarity (not polarity) s.net) ∷ []
+finished polarity [] s =
+    (if s.positive then One (not polarity) polarity s.net else One polarity (not polarity) s.net)
+    ∷ []
 finished polarity (g ∷ gates) s = if polarity then g ∷ gates else complement_last (g ∷ gates)
 
 abbrev pub is_empty : {X : Type 0} → List X → Bool
@@ -87,7 +99,8 @@ is_empty (x ∷ xs) = false
 abbrev pub cover_gates : (next : ℕ) → List (List Signed) → (polarity : Bool) → List Gate
 cover_gates next [] polarity = Constant false ∷ []
 cover_gates next (row ∷ rows) polarity =
-    if list_any is_empty (row ∷ rows) then Constant polarity ∷ [] else finished polarity (rows_made next row rows).gates (rows_made next row rows).result
+    if list_any is_empty (row ∷ rows) then Constant polarity ∷ []
+    else finished polarity (rows_made next row rows).gates (rows_made next row rows).result
 
 -- the gates of an equation. `nets` are those of the names, and `next` is the net of its first gate
 abbrev pub gates_of_equation : (next : ℕ) → (nets : ℕ → ℕ) → EquationOf ℕ → List Gate

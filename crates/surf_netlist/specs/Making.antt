@@ -12,15 +12,19 @@ pub record Making : Type 0 where
 -- one signed net more, by an AND or an OR. `inputs` is the number of the inputs
 abbrev pub with_and : (inputs : ℕ) → List Gate → Option Signed → Signed → Making
 with_and inputs gates None s = record { gates = gates; so_far = Some s }
-with_and inputs gates (Some t) s = record { gates = gates ++ and_gate t s ∷ []; so_far = Some (plain (inputs + length gates)) }
+with_and inputs gates (Some t) s =
+    record { gates = gates ++ and_gate t s ∷ []; so_far = Some (plain (inputs + length gates)) }
 
 abbrev pub with_or : (inputs : ℕ) → List Gate → Option Signed → Signed → Making
 with_or inputs gates None s = record { gates = gates; so_far = Some s }
-with_or inputs gates (Some t) s = record { gates = gates ++ or_gate t s ∷ []; so_far = Some (plain (inputs + length gates)) }
+with_or inputs gates (Some t) s =
+    record { gates = gates ++ or_gate t s ∷ []; so_far = Some (plain (inputs + length gates)) }
 
 abbrev pub and_all : (inputs : ℕ) → List Gate → Option Signed → List Signed → Making
 and_all inputs gates so_far [] = record { gates = gates; so_far = so_far }
-and_all inputs gates so_far (s ∷ row) = and_all inputs (with_and inputs gates so_far s).gates (with_and inputs gates so_far s).so_far row
+and_all inputs gates so_far (s ∷ row) =
+    and_all inputs (with_and inputs gates so_far s).gates (with_and inputs gates so_far s).so_far
+    row
 
 -- rows, up to one without a signed net
 abbrev pub or_all : (inputs : ℕ) → List Gate → Option Signed → List (List Signed) → Making
@@ -29,7 +33,8 @@ or_all inputs gates so_far (row ∷ rows) =
     let made = and_all inputs gates None row in
     elim made.so_far [
       | None ↦ record { gates = made.gates; so_far = None }
-      | Some s ↦ or_all inputs (with_or inputs made.gates so_far s).gates (with_or inputs made.gates so_far s).so_far rows
+      | Some s ↦ or_all inputs (with_or inputs made.gates so_far s).gates
+          (with_or inputs made.gates so_far s).so_far rows
     ]
 
 -- a table of the nets of the names

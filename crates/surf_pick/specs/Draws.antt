@@ -16,7 +16,9 @@ words_of g = stream_of (steps_u64_low pcg64) g
 
 -- a number below 2^128 of the next two words, and the words after them
 abbrev pub next_wide : Stream → ℕ × Stream
-next_wide s = let first = next_u64 s in let second = next_u64 first.1 in (first.0 * 2 ^ 64 + second.0, second.1)
+next_wide s =
+    let first = next_u64 s in
+    let second = next_u64 first.1 in (first.0 * 2 ^ 64 + second.0, second.1)
 
 -- of at most so many tries and one more, the first that counts or the last, and the words after it
 unfoldable pub tried : ℕ → ℕ → Stream → ℕ × Stream

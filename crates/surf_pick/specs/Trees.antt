@@ -1,25 +1,29 @@
 -- Trees of sums, in a list whose place i has its two parts at places 2i and 2i + 1.
 use Rattle.std.specs.Prelude.{ℕ, ◌+◌, ◌-◌, ◌*◌, ◌^◌, ◌<◌, ◌≤◌, ◌≡◌, List, ◌++◌, length, drop, replicate, sum, slice_index}
 
--- the tree of sums over weights: t is the least number for which 2^t is at least the number of weights
+-- the tree of sums over weights: t is the least number for which 2^t is at least the number of
+-- weights
 pub record TreeOf (ws sums : List ℕ) (t : ℕ) : Type 0 where
   pub holds : length ws ≤ 2 ^ t
   pub least : (k : ℕ) → length ws ≤ 2 ^ k → t ≤ k
   pub size : length sums ≡ 2 * 2 ^ t
   pub unused : slice_index sums 0 ≡ 0
   pub leaves : (i : ℕ) → i < 2 ^ t → slice_index sums (2 ^ t + i) ≡ slice_index ws i
-  pub inner : (i : ℕ) → 1 ≤ i → i < 2 ^ t → slice_index sums i ≡ slice_index sums (2 * i) + slice_index sums (2 * i + 1)
+  pub inner : (i : ℕ) → 1 ≤ i → i < 2 ^ t → slice_index sums i
+      ≡ slice_index sums (2 * i) + slice_index sums (2 * i + 1)
 
 abbrev pub IsTree : List ℕ → List ℕ → Type 0
 IsTree ws sums = (t : ℕ) × TreeOf ws sums t
 
 -- each inner place from a place on holds the sum of its two
 abbrev pub InnerFrom : ℕ → ℕ → List ℕ → Type 0
-InnerFrom low half sums = (i : ℕ) → low ≤ i → i < half → slice_index sums i ≡ slice_index sums (2 * i) + slice_index sums (2 * i + 1)
+InnerFrom low half sums = (i : ℕ) → low ≤ i → i < half →
+    slice_index sums i ≡ slice_index sums (2 * i) + slice_index sums (2 * i + 1)
 
 -- each inner place but one holds the sum of its two
 abbrev pub InnerBut : ℕ → ℕ → List ℕ → Type 0
-InnerBut place half sums = (i : ℕ) → 1 ≤ i → i < half → (i ≡ place → ⊥) → slice_index sums i ≡ slice_index sums (2 * i) + slice_index sums (2 * i + 1)
+InnerBut place half sums = (i : ℕ) → 1 ≤ i → i < half → (i ≡ place → ⊥) →
+    slice_index sums i ≡ slice_index sums (2 * i) + slice_index sums (2 * i + 1)
 
 -- a list of sums whose leaves, from half on, are these weights and then zeros
 pub record Kept (ws sums : List ℕ) (half t : ℕ) : Type 0 where

@@ -1,3 +1,4 @@
+// Draws of numbers below a bound, from words that a seed fixes.
 ghost use Rattle.std.specs.Prelude.{◌≡◌, ◌<◌, ◌-◌, ◌^◌, ◌%◌};
 ghost use Rattle.surf_pick.specs.Draws.{seeded, words_of, next_wide, draw_below};
 

@@ -1,3 +1,4 @@
+// The trait of pickers: which part of a sum a number falls into.
 ghost use Rattle.std.specs.Prelude.{◌≡◌, ◌<◌, ◌≤◌, ◌^◌, ◌+◌, ◌-◌, List, ℕ, length, sum, slice_set, min, IfOk};
 ghost use Rattle.surf_pick.specs.Finds.{Finds};
 

@@ -1,3 +1,4 @@
+// A picker that goes through its list.
 use crate::picker::Picker;
 use std::alloc::Global;
 use std::marker::Model;

@@ -1,3 +1,4 @@
+// A picker that keeps a tree of sums.
 ghost use Rattle.std.specs.Prelude.{◌≡◌, ◌<◌, ◌≤◌, ◌^◌, ◌+◌, ◌-◌, ◌*◌, ◌/◌, length, IfOk, replicate, ◌++◌};
 ghost use Rattle.surf_pick.specs.Trees.{IsTree, IsRows, InnerFrom, InnerBut, SameLeaves};
 

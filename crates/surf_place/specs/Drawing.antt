@@ -8,7 +8,8 @@ use Rattle.surf_tiles.specs.declared.tile.Tile.TheVariants.{Empty as NoTile, Inp
 use Rattle.surf_tiles.specs.Netlists.{NetlistOf, nets_of}
 use Rattle.surf_tiles.specs.Tiles.{wires}
 
--- what a row of tiles is for: it begins a net, brings a net to a gate, or ends at an output. `device` is the tile in column 0
+-- what a row of tiles is for: it begins a net, brings a net to a gate, or ends at an output.
+-- `device` is the tile in column 0
 pub data Row : Type 0 where
   Source : (net : ℕ) → (device : Tile) → Row
   Tap : (net gate : ℕ) → (device : Tile) → Row
@@ -23,13 +24,18 @@ abbrev pub input_rows : (count net : ℕ) → (below : List Row) → List Row
 input_rows zero net below = below
 input_rows (suc count) net below = Source net Inputs ∷ input_rows count (net + 1) below
 
--- a band for each gate. A two-input gate stands beside its second tap, the first tap's wire above it and the wire of its own net below
+-- a band for each gate. A two-input gate stands beside its second tap, the first tap's wire above
+-- it and the wire of its own net below
 abbrev pub gate_rows : (net : ℕ) → List Gate → (below : List Row) → List Row
 gate_rows net [] below = below
-gate_rows net (Constant v ∷ gates) below = Source net (Constants v) ∷ gate_rows (net + 1) gates below
-gate_rows net (One z o input ∷ gates) below = Tap input net (wires false true true false) ∷ Source net (Ones z o) ∷ gate_rows (net + 1) gates below
+gate_rows net (Constant v ∷ gates) below =
+    Source net (Constants v) ∷ gate_rows (net + 1) gates below
+gate_rows net (One z o input ∷ gates) below =
+    Tap input net (wires false true true false) ∷ Source net (Ones z o)
+    ∷ gate_rows (net + 1) gates below
 gate_rows net (Two t00 t01 t10 t11 first second ∷ gates) below =
-    Tap first net (wires false true true false) ∷ Tap second net (Twos t00 t01 t10 t11) ∷ Source net (wires true true false false) ∷ gate_rows (net + 1) gates below
+    Tap first net (wires false true true false) ∷ Tap second net (Twos t00 t01 t10 t11)
+    ∷ Source net (wires true true false false) ∷ gate_rows (net + 1) gates below
 
 abbrev pub rows_of : NetlistOf → List Row
 rows_of N = input_rows N.inputs 0 (gate_rows N.inputs N.gates (map Ends N.outputs))
@@ -68,9 +74,11 @@ HasRow N n r = (source_row N n ≤ r) × (r ≤ last_row N n)
 pub record IsPlacement (N : NetlistOf) (p : Placement) : Type 0 where
   pub few : p.columns ≤ 1 + nets_of N
   pub inside : (n : ℕ) → n < nets_of N → (1 ≤ p.column n) × (p.column n < p.columns)
-  pub apart : (m n r : ℕ) → m < nets_of N → n < nets_of N → p.column m ≡ p.column n → HasRow N m r → HasRow N n r → m ≡ n
+  pub apart : (m n r : ℕ) → m < nets_of N → n < nets_of N → p.column m ≡ p.column n → HasRow N m r →
+      HasRow N n r → m ≡ n
 
--- where a column stands in a row: the devices' column, left of the row's own lane, in it, or right of it
+-- where a column stands in a row: the devices' column, left of the row's own lane, in it, or right
+-- of it
 pub data Place : Type 0 where
   Device Left Own Right : Place
 
@@ -78,14 +86,17 @@ abbrev pub place_in : (column lane : ℕ) → Place
 place_in zero lane = Device
 place_in (suc c) lane = cond (nat_lt (suc c) lane) Left (cond (nat_eq (suc c) lane) Own Right)
 
--- the table of tiles. `passed` says that a net passes there, and `below` that the row's net goes on below
+-- the table of tiles. `passed` says that a net passes there, and `below` that the row's net goes on
+-- below
 abbrev pub tile_in : Row → Place → (passed below : Bool) → Tile
 tile_in (Source n device) Device passed below = device
-tile_in (Source n device) Left passed below = cond passed (Crosses Eastward) (wires false true false true)
+tile_in (Source n device) Left passed below =
+    cond passed (Crosses Eastward) (wires false true false true)
 tile_in (Source n device) Own passed below = wires false false below true
 tile_in (Source n device) Right passed below = cond passed (wires true false true false) NoTile
 tile_in (Tap n gate device) Device passed below = device
-tile_in (Tap n gate device) Left passed below = cond passed (Crosses Westward) (wires false true false true)
+tile_in (Tap n gate device) Left passed below =
+    cond passed (Crosses Westward) (wires false true false true)
 tile_in (Tap n gate device) Own passed below = wires true false below true
 tile_in (Tap n gate device) Right passed below = cond passed (wires true false true false) NoTile
 tile_in (Ends n) Device passed below = NoTile
@@ -102,4 +113,5 @@ passing N p c r = greatest (passes N p c r) (nets_of N)
 
 abbrev pub tile_of : NetlistOf → Placement → (c r : ℕ) → Tile
 tile_of N p c r =
-    tile_in (row_at N r) (place_in c (p.column (net_of (row_at N r)))) (is_some (passing N p c r)) (nat_lt r (last_row N (net_of (row_at N r))))
+    tile_in (row_at N r) (place_in c (p.column (net_of (row_at N r)))) (is_some (passing N p c r))
+    (nat_lt r (last_row N (net_of (row_at N r))))

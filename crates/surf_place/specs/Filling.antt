@@ -13,7 +13,8 @@ abbrev pub nothing : Filled
 nothing = record { source = []; last = []; row = 0 }
 
 abbrev pub with_source : Filled → Filled
-with_source f = record { source = f.source ++ f.row ∷ []; last = f.last ++ f.row ∷ []; row = f.row + 1 }
+with_source f =
+    record { source = f.source ++ f.row ∷ []; last = f.last ++ f.row ∷ []; row = f.row + 1 }
 
 abbrev pub with_use : Filled → (net : ℕ) → Filled
 with_use f net = record { source = f.source; last = slice_set f.last net f.row; row = f.row + 1 }

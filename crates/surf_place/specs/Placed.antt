@@ -16,7 +16,8 @@ pub record IsDrawable (N : NetlistOf) : Type 0 where
 
 -- the rows of the nets, from the source row to the last
 abbrev pub net_spans : NetlistOf → List Span
-net_spans N = map (λ n. record { from = source_row N n; to = last_row N n }) (range_with_len 0 (nets_of N))
+net_spans N =
+    map (λ n. record { from = source_row N n; to = last_row N n }) (range_with_len 0 (nets_of N))
 
 -- spans from the first rows to the last rows
 abbrev pub spans_of : (source last : List ℕ) → List Span
@@ -42,7 +43,8 @@ pub record IsPlaced (d : PlacedOf) : Type 0 where
   pub law : IsPacked (net_spans d.netlist) d.lanes
   pub placement : IsPlacement d.netlist (placement_of d)
 
--- what is kept beside the netlist: how many rows there are, the source row and the last row of each net, and its lane
+-- what is kept beside the netlist: how many rows there are, the source row and the last row of each
+-- net, and its lane
 pub record IsLaid (N : NetlistOf) (rows : ℕ) (source last : List ℕ) (lanes : LanesOf) : Type 0 where
   pub drawable : IsDrawable N
   pub rows_are : rows ≡ length (rows_of N)
@@ -52,4 +54,6 @@ pub record IsLaid (N : NetlistOf) (rows : ℕ) (source last : List ℕ) (lanes :
 
 -- the tiles, row by row
 abbrev pub tiles_of : NetlistOf → Placement → List Tile
-tiles_of N p = flat_map (λ r. map (λ c. tile_of N p c r) (range_with_len 0 p.columns)) (range_with_len 0 (length (rows_of N)))
+tiles_of N p =
+    flat_map (λ r. map (λ c. tile_of N p c r) (range_with_len 0 p.columns))
+    (range_with_len 0 (length (rows_of N)))

@@ -29,15 +29,19 @@ line_tile line place passed below = tile_in (row_by line) place passed below
 
 -- its tile in a column, where the table says in which columns another net comes from above
 abbrev pub tile_by : Line → (lane : ℕ) → (table : List Bool) → (below : Bool) → (column : ℕ) → Tile
-tile_by line lane table below c = line_tile line (place_in c lane) (slice_index_or table c false) below
+tile_by line lane table below c =
+    line_tile line (place_in c lane) (slice_index_or table c false) below
 
 -- its first tiles
-abbrev pub line_tiles : Line → (lane : ℕ) → (table : List Bool) → (below : Bool) → (count : ℕ) → List Tile
-line_tiles line lane table below count = map (tile_by line lane table below) (range_with_len 0 count)
+abbrev pub line_tiles : Line → (lane : ℕ) → (table : List Bool) → (below : Bool) → (count : ℕ) →
+    List Tile
+line_tiles line lane table below count =
+    map (tile_by line lane table below) (range_with_len 0 count)
 
 -- the net goes from a row to the next in this column
 abbrev pub goes : NetlistOf → Placement → (c r n : ℕ) → Bool
-goes N p c r n = nat_eq (p.column n) c && (nat_lt (source_row N n) (suc r) && nat_lt r (last_row N n))
+goes N p c r n =
+    nat_eq (p.column n) c && (nat_lt (source_row N n) (suc r) && nat_lt r (last_row N n))
 
 -- a net comes into a row from the one above it
 abbrev pub arrives : NetlistOf → Placement → (c r : ℕ) → Bool
@@ -47,7 +51,8 @@ arrives N p c (suc r) = is_some (greatest (goes N p c r) (nets_of N))
 -- for each column but the first, whether a net comes into this row
 pub record IsTable (N : NetlistOf) (p : Placement) (r : ℕ) (table : List Bool) : Type 0 where
   pub long : length table ≡ p.columns
-  pub each : (c : ℕ) → suc c < p.columns → slice_index_or table (suc c) false ≡ arrives N p (suc c) r
+  pub each : (c : ℕ) → suc c < p.columns → slice_index_or table (suc c) false
+      ≡ arrives N p (suc c) r
 
 abbrev pub tiles_in_row : NetlistOf → Placement → ℕ → List Tile
 tiles_in_row N p r = map (λ c. tile_of N p c r) (range_with_len 0 p.columns)
@@ -58,7 +63,8 @@ IsNext N r line = option_map line_of (slice_get (rows_of N) r) ≡ Some line
 
 -- these rows come next
 abbrev pub AreNext : NetlistOf → (r : ℕ) → List Row → Type 0
-AreNext N r rows = (i : ℕ) (row : Row) → slice_get rows i ≡ Some row → slice_get (rows_of N) (r + i) ≡ Some row
+AreNext N r rows =
+    (i : ℕ) (row : Row) → slice_get rows i ≡ Some row → slice_get (rows_of N) (r + i) ≡ Some row
 
 -- the rows of a gate
 abbrev pub band_of : (net : ℕ) → Gate → List Row
@@ -77,4 +83,5 @@ pub record IsSheet (d : PlacedOf) (s : Sheet) : Type 0 where
   pub placed : IsPlaced d
   pub within : s.row ≤ length (rows_of d.netlist)
   pub table : IsTable d.netlist (placement_of d) s.row s.table.items
-  pub tiles : s.tiles.items ≡ flat_map (tiles_in_row d.netlist (placement_of d)) (range_with_len 0 s.row)
+  pub tiles : s.tiles.items ≡ flat_map (tiles_in_row d.netlist (placement_of d))
+      (range_with_len 0 s.row)

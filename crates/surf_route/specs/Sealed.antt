@@ -12,7 +12,9 @@ use Rattle.surf_place.specs.Drawing.{rows_of, Placement, tile_of}
 
 -- the kind of the site at a place in row-major order
 abbrev pub kind_drawn : NetlistOf → Placement → (width place : ℕ) → Kind
-kind_drawn N p width place = kind_in (tile_of N p (place % width / 3) (place / width / 3)) (spot_of (place % width % 3) (place / width % 3))
+kind_drawn N p width place =
+    kind_in (tile_of N p (place % width / 3) (place / width / 3))
+    (spot_of (place % width % 3) (place / width % 3))
 
 -- the centre of a tile
 abbrev pub centre : (column row : ℕ) → Site
@@ -31,7 +33,8 @@ sealed N p = record {
   netlist = N;
   width = 3 * p.columns;
   height = 3 * length (rows_of N);
-  kinds = map (kind_drawn N p (3 * p.columns)) (range_with_len 0 (3 * p.columns * (3 * length (rows_of N))));
+  kinds = map (kind_drawn N p (3 * p.columns))
+      (range_with_len 0 (3 * p.columns * (3 * length (rows_of N))));
   inputs = input_sites N;
   outputs = output_sites p (length (rows_of N) - length N.outputs) N.outputs;
 }

@@ -14,4 +14,5 @@ line_start d row y = width_of d * (3 * row + y)
 
 -- these are the kinds of the first so many sites
 abbrev pub AreKinds : PlacedOf → ℕ → List Kind → Type 0
-AreKinds d count kinds = kinds ≡ map (kind_drawn d.netlist (placement_of d) (width_of d)) (range_with_len 0 count)
+AreKinds d count kinds =
+    kinds ≡ map (kind_drawn d.netlist (placement_of d) (width_of d)) (range_with_len 0 count)

@@ -20,12 +20,14 @@ same_side South South = true
 same_side West West = true
 same_side _ _ = false
 
--- which way a value goes through a side of a tile. `entry` is the side by which a wire tile is entered
+-- which way a value goes through a side of a tile. `entry` is the side by which a wire tile is
+-- entered
 pub data Flow : Type 0 where
   Shut In Out : Flow
 
 abbrev pub flow : Tile → (entry : Side) → Side → Flow
-flow (Wires ports) entry side = cond (port (Wires ports) side) (cond (same_side side entry) In Out) Shut
+flow (Wires ports) entry side =
+    cond (port (Wires ports) side) (cond (same_side side entry) In Out) Shut
 flow Inputs entry East = Out
 flow (Constants v) entry East = Out
 flow (Ones z o) entry North = In
@@ -92,23 +94,37 @@ flow_at t c r side = flow (t.tile c r) (t.entry c r) side
 -- the nets of a tile's ports and of its middle
 abbrev pub TileNets : NetlistOf → Tile → (mid : Bool → ℕ) → (ports : Side → ℕ) → Type 0
 TileNets N NoTile mid ports = Unit {0}
-TileNets N (Wires sides) mid ports = (side : Side) → port (Wires sides) side ≡ true → ports side ≡ mid false
+TileNets N (Wires sides) mid ports =
+    (side : Side) → port (Wires sides) side ≡ true → ports side ≡ mid false
 TileNets N Inputs mid ports = ports East ≡ mid false
 TileNets N (Constants v) mid ports = (ports East ≡ mid false) × IsGate N (mid false) (Constant v)
-TileNets N (Ones z o) mid ports = (ports East ≡ mid false) × IsGate N (mid false) (One z o (ports North))
-TileNets N (Twos t00 t01 t10 t11) mid ports = (ports South ≡ mid false) × IsGate N (mid false) (Two t00 t01 t10 t11 (ports North) (ports East))
-TileNets N (Crosses heading) mid ports = (ports East ≡ mid false) × (ports West ≡ mid false) × (ports North ≡ mid true) × (ports South ≡ mid true)
-TileNets N (Outputs south) mid ports = (ports North ≡ mid false) × (south ≡ true → ports South ≡ mid false)
+TileNets N (Ones z o) mid ports =
+    (ports East ≡ mid false) × IsGate N (mid false) (One z o (ports North))
+TileNets N (Twos t00 t01 t10 t11) mid ports =
+    (ports South ≡ mid false)
+    × IsGate N (mid false) (Two t00 t01 t10 t11 (ports North) (ports East))
+TileNets N (Crosses heading) mid ports = (ports East ≡ mid false) × (ports West ≡ mid false)
+    × (ports North ≡ mid true) × (ports South ≡ mid true)
+TileNets N (Outputs south) mid ports =
+    (ports North ≡ mid false) × (south ≡ true → ports South ≡ mid false)
 
--- a port faces the opposite port of the tile beyond, of the same net; one of them is a way out, and the other a way in, of a higher level
+-- a port faces the opposite port of the tile beyond, of the same net; one of them is a way out, and
+-- the other a way in, of a higher level
 pub record Faces (columns rows : ℕ) (t : Tiling) (c r : ℕ) (side : Side) : Type 0 where
   pub there : HasBeyond columns rows side c r
   pub opens : flow_at t (column_beyond side c) (row_beyond side r) (opposite side) ≡ Out
-  pub same_net : t.port_net c r side ≡ t.port_net (column_beyond side c) (row_beyond side r) (opposite side)
-  pub lower : t.level (column_beyond side c) (row_beyond side r) (joined (t.tile (column_beyond side c) (row_beyond side r)) (opposite side)) < t.level c r (joined (t.tile c r) side)
+  pub same_net : t.port_net c r side ≡ t.port_net (column_beyond side c) (row_beyond side r)
+      (opposite side)
+  pub lower : t.level (column_beyond side c) (row_beyond side r)
+      (joined (t.tile (column_beyond side c) (row_beyond side r)) (opposite side)) < t.level c r
+      (joined (t.tile c r) side)
 
 pub record TileLaw (N : NetlistOf) (columns rows : ℕ) (t : Tiling) : Type 0 where
   pub entered : (c r : ℕ) → c < columns → r < rows → IsEntered (t.tile c r) (t.entry c r)
-  pub comes_in : (c r : ℕ) → c < columns → r < rows → (side : Side) → flow_at t c r side ≡ In → Faces columns rows t c r side
-  pub goes_out : (c r : ℕ) → c < columns → r < rows → (side : Side) → flow_at t c r side ≡ Out → HasBeyond columns rows side c r × (flow_at t (column_beyond side c) (row_beyond side r) (opposite side) ≡ In)
-  pub nets : (c r : ℕ) → c < columns → r < rows → TileNets N (t.tile c r) (t.mid_net c r) (t.port_net c r)
+  pub comes_in : (c r : ℕ) → c < columns → r < rows → (side : Side) → flow_at t c r side ≡ In →
+      Faces columns rows t c r side
+  pub goes_out : (c r : ℕ) → c < columns → r < rows → (side : Side) → flow_at t c r side ≡ Out →
+      HasBeyond columns rows side c r
+      × (flow_at t (column_beyond side c) (row_beyond side r) (opposite side) ≡ In)
+  pub nets : (c r : ℕ) → c < columns → r < rows → TileNets N (t.tile c r) (t.mid_net c r)
+      (t.port_net c r)

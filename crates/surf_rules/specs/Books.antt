@@ -14,7 +14,11 @@ is_pair a b r = nat_lt 0 r.rate && (option_map_or (λ c. c == b) r.right false &
 
 -- the numbers of the rules with this left side, rising
 abbrev pub alone_of : List Rule → ℕ → List ℕ
-alone_of rules a = filter (λ k. option_map_or (is_alone a) (slice_get rules k) false) (range_with_len 0 (length rules))
+alone_of rules a =
+    filter (λ k. option_map_or (is_alone a) (slice_get rules k) false)
+    (range_with_len 0 (length rules))
 
 abbrev pub pair_of : List Rule → ℕ → ℕ → List ℕ
-pair_of rules a b = filter (λ k. option_map_or (is_pair a b) (slice_get rules k) false) (range_with_len 0 (length rules))
+pair_of rules a b =
+    filter (λ k. option_map_or (is_pair a b) (slice_get rules k) false)
+    (range_with_len 0 (length rules))

@@ -9,7 +9,8 @@ text_of texts k = unwrap_or (slice_get texts k) []
 
 -- no two places have one text
 abbrev pub AreDistinct : List (List ℕ) → Type 0
-AreDistinct texts = (i j : ℕ) (t : List ℕ) → slice_get texts i ≡ Some t → slice_get texts j ≡ Some t → i ≡ j
+AreDistinct texts =
+    (i j : ℕ) (t : List ℕ) → slice_get texts i ≡ Some t → slice_get texts j ≡ Some t → i ≡ j
 
 -- the texts with one more, which goes last where it is new
 abbrev pub with_text : List (List ℕ) → List ℕ → List (List ℕ)

@@ -1,4 +1,5 @@
--- The index of rules by their left sides: entries by left name, those of one name by the rank of the right one.
+-- The index of rules by their left sides: entries by left name, those of one name by the rank of
+-- the right one.
 use Rattle.std.specs.Prelude.{ℕ, ◌≡◌, ◌<◌, ◌≤◌, ◌+◌, ◌==◌, ◌&&◌, suc, nat_lt, Bool, false, List, length, map, filter, Option, Some, None, slice_get, slice_index, slice_index_or, All, if◌then◌else◌}
 use Rattle.std.specs.Option.{option_map_or}
 use Rattle.std.specs.List.{range_with_len}
@@ -16,11 +17,15 @@ abbrev pub is_side : ℕ → ℕ → Rule → Bool
 is_side a r rule = nat_lt 0 rule.rate && ((rank_of rule.right == r) && (rule.left == a))
 
 abbrev pub side_of : List Rule → ℕ → ℕ → List ℕ
-side_of rules a r = filter (λ k. option_map_or (is_side a r) (slice_get rules k) false) (range_with_len 0 (length rules))
+side_of rules a r =
+    filter (λ k. option_map_or (is_side a r) (slice_get rules k) false)
+    (range_with_len 0 (length rules))
 
 -- the entry of a rule, where its rate is above 0
 abbrev pub entry_of : Rule → ℕ → Option Entry
-entry_of rule k = if nat_lt 0 rule.rate then Some (record { left = rule.left; number = k; rank = rank_of rule.right }) else None
+entry_of rule k =
+    if nat_lt 0 rule.rate
+    then Some (record { left = rule.left; number = k; rank = rank_of rule.right }) else None
 
 -- the numbers of the entries of a left side
 abbrev pub numbers_of : ℕ → ℕ → List Entry → List ℕ
@@ -39,7 +44,9 @@ pub record AreStarts (starts : List ℕ) (es : List Entry) : Type 0 where
 
 -- where the entries of a name begin and end
 abbrev pub span_of : List ℕ → ℕ → ℕ × ℕ
-span_of starts a = if nat_lt (a + 1) (length starts) then (slice_index starts a, slice_index starts (a + 1)) else (0, 0)
+span_of starts a =
+    if nat_lt (a + 1) (length starts) then (slice_index starts a, slice_index starts (a + 1))
+    else (0, 0)
 
 -- the lists are the index of the rules
 pub record IsIndex (rules : List Rule) (starts ranks numbers : List ℕ) : Type 0 where

@@ -1,3 +1,4 @@
+// Rules that are found by number and by left side.
 ghost use Rattle.std.specs.Prelude.{◌≡◌, ◌≤◌, ◌<◌, All, IfOk, Some, length, slice_get};
 ghost use Rattle.surf_rules.specs.Books.{alone_of, pair_of};
 ghost use Rattle.surf_rules.specs.Sides.{side_of};
@@ -24,7 +25,9 @@ impl Model for RuleBook {
 
     ghost view = { λ b. b.rules.items };
 
-    ghost invariant = { λ b. (length b.rules.items ≤ 1048576) × All (λ r. r.rate ≤ 1000000000000) b.rules.items × IsIndex b.rules.items b.index.starts.items b.index.ranks.items b.index.numbers.items };
+    ghost invariant = { λ b.
+        (length b.rules.items ≤ 1048576) × All (λ r. r.rate ≤ 1000000000000) b.rules.items
+        × IsIndex b.rules.items b.index.starts.items b.index.ranks.items b.index.numbers.items };
 }
 
 impl RuleBook {

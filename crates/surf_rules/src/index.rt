@@ -1,3 +1,4 @@
+// An index of rules by their left sides.
 ghost use Rattle.std.specs.Prelude.{◌≡◌, ◌≤◌, ◌<◌, ◌+◌, ◌++◌, ◌^◌, ℕ, IfSome, All, length, map, ◌-◌, take, drop};
 ghost use Rattle.std.specs.List.Sorted.{IsNonDecreasing, IsNonDecreasingBy, IsStableByKey};
 ghost use Rattle.std.specs.Option.{option_to_list};
@@ -108,7 +109,8 @@ fn push_some(entries: &mut Vec<Entry>, entry: Option<Entry>) -> Option<()>
 fn entries(alloc: Global, rules: &[Rule]) -> Option<Vec<Entry>>
     requires { length rules.now ≤ 1048576 }
     ensures few { IfSome result (λ es. length es.items ≤ length rules.now) }
-    ensures same { IfSome result (λ es. (a r : ℕ) → numbers_of a r es.items ≡ side_of rules.now a r) }
+    ensures same { IfSome result
+        (λ es. (a r : ℕ) → numbers_of a r es.items ≡ side_of rules.now a r) }
 {
     let mut entries = Vec::new(alloc);
     for place in 0..rules.len() {
@@ -121,7 +123,8 @@ fn entries(alloc: Global, rules: &[Rule]) -> Option<Vec<Entry>>
 fn by_rank(entries: Vec<Entry>) -> Option<Vec<Entry>>
     ensures few { IfSome result (λ es. length es.items ≡ length entries.items) }
     ensures rising { IfSome result (λ es. IsNonDecreasingBy (λ e. e.rank) es.items) }
-    ensures stable { IfSome result (λ es. IsStableByKey (λ e. e.rank) nat_cmp entries.items es.items) }
+    ensures stable { IfSome result
+        (λ es. IsStableByKey (λ e. e.rank) nat_cmp entries.items es.items) }
 {
     let mut sorted = entries;
     match sorted.sort_by_key(|entry| entry.rank) {
@@ -134,7 +137,8 @@ fn by_rank(entries: Vec<Entry>) -> Option<Vec<Entry>>
 fn by_left(entries: Vec<Entry>) -> Option<Vec<Entry>>
     ensures few { IfSome result (λ es. length es.items ≡ length entries.items) }
     ensures rising { IfSome result (λ es. IsNonDecreasingBy (λ e. e.left) es.items) }
-    ensures stable { IfSome result (λ es. IsStableByKey (λ e. e.left) nat_cmp entries.items es.items) }
+    ensures stable { IfSome result
+        (λ es. IsStableByKey (λ e. e.left) nat_cmp entries.items es.items) }
 {
     let mut sorted = entries;
     match sorted.sort_by_key(|entry| entry.left) {

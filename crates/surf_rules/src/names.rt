@@ -1,3 +1,4 @@
+// Distinct names and their numbers.
 ghost use Rattle.std.specs.Prelude.{◌≡◌, ◌<◌, ◌^◌, ◌-◌, ◌++◌, ◌∷◌, [], length, IfOk, OnErr, OnOk, false, IfSome, IfNone, slice_get, Some, ℕ};
 ghost use Rattle.std.specs.List.{list_any};
 ghost use Rattle.std.specs.Str.{bytes_eq};
@@ -23,7 +24,9 @@ impl Model for Names {
 
     ghost view = { λ n. map (λ v. v.items) n.set.keys };
 
-    ghost invariant = { λ n. AreDistinct (map (λ v. v.items) n.set.keys) × (length (map (λ v. v.items) n.set.keys) < 2 ^ 32) };
+    ghost invariant = { λ n.
+        AreDistinct (map (λ v. v.items) n.set.keys)
+        × (length (map (λ v. v.items) n.set.keys) < 2 ^ 32) };
 }
 
 impl Names {

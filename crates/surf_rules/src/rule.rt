@@ -1,3 +1,4 @@
+// Rules over the numbers of names.
 ghost use Rattle.std.specs.Prelude.{◌≡◌, is_some};
 
 /// A rule over the numbers of names: `left -> left_after` at one site, or

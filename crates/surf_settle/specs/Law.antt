@@ -25,12 +25,14 @@ square_grid width height = record { kind = Square; wrap = false; width = width; 
 abbrev pub grid_of : Plan → Grid
 grid_of L = square_grid L.width L.height
 
--- a slot is a site, or one of the two slots of a crossing's centre: `down` says that it is the vertical one
+-- a slot is a site, or one of the two slots of a crossing's centre: `down` says that it is the
+-- vertical one
 pub record Slot : Type 0 where
   pub site : Site
   pub down : Bool
 
--- what the law says exists: the net and the rank of each slot, and the slot that feeds the first and the second read of each site
+-- what the law says exists: the net and the rank of each slot, and the slot that feeds the first
+-- and the second read of each site
 pub record Lists : Type 0 where
   pub net : Slot → ℕ
   pub rank : Slot → ℕ
@@ -50,7 +52,8 @@ abbrev pub slot_of : Kind → Bool → Bool
 slot_of Centre i = i
 slot_of _ i = false
 
--- a read of a site has a feeder at a neighbouring site, of lower rank than the slot that waits for it, which offers its value on the way that is wanted
+-- a read of a site has a feeder at a neighbouring site, of lower rank than the slot that waits for
+-- it, which offers its value on the way that is wanted
 pub record IsFed (L : Plan) (l : Lists) (s : Site) (i : Bool) (w : Way) : Type 0 where
   pub beside : Adjacent (grid_of L) (l.feeder s i).site s
   pub offered : offers (kind_of L (l.feeder s i).site) (l.feeder s i).down ≡ Some w
@@ -58,7 +61,8 @@ pub record IsFed (L : Plan) (l : Lists) (s : Site) (i : Bool) (w : Way) : Type 0
 
 -- a slot of p feeds a read of q
 abbrev pub Feeds : Plan → Lists → Site → Site → Type 0
-Feeds L l p q = (i : Bool) × (w : Way) × (u : Bool) × (wants (kind_of L q) i ≡ Some w) × (l.feeder q i ≡ slot p u)
+Feeds L l p q = (i : Bool) × (w : Way) × (u : Bool) × (wants (kind_of L q) i ≡ Some w)
+    × (l.feeder q i ≡ slot p u)
 
 -- the nets of a site's slots follow from those that it reads
 abbrev pub NetLaw : NetlistOf → Kind → (own below one two : ℕ) → Type 0
@@ -79,17 +83,26 @@ NetLaw N Centre own below one two = (own ≡ one) × (below ≡ two)
 pub record LocalLaw (L : Plan) (l : Lists) : Type 0 where
   pub ordered : IsOrdered L.netlist
   pub long : length L.kinds ≡ L.width * L.height
-  pub fed : (s : Site) → IsInside (grid_of L) s → (i : Bool) (w : Way) → wants (kind_of L s) i ≡ Some w → IsFed L l s i w
+  pub fed : (s : Site) → IsInside (grid_of L) s → (i : Bool) (w : Way) →
+      wants (kind_of L s) i ≡ Some w → IsFed L l s i w
   -- what q could read of its neighbour p, it reads of it, or q feeds p
-  pub linked : (p q : Site) → Adjacent (grid_of L) p q → (u i : Bool) (w : Way) → offers (kind_of L p) u ≡ Some w → wants (kind_of L q) i ≡ Some w → (l.feeder q i ≡ slot p u) ⊎ Feeds L l q p
-  pub nets : (s : Site) → IsInside (grid_of L) s → NetLaw L.netlist (kind_of L s) (l.net (slot s false)) (l.net (slot s true)) (l.net (l.feeder s false)) (l.net (l.feeder s true))
+  pub linked : (p q : Site) → Adjacent (grid_of L) p q → (u i : Bool) (w : Way) →
+      offers (kind_of L p) u ≡ Some w → wants (kind_of L q) i ≡ Some w → (l.feeder q i ≡ slot p u)
+      ⊎ Feeds L l q p
+  pub nets : (s : Site) → IsInside (grid_of L) s →
+      NetLaw L.netlist (kind_of L s) (l.net (slot s false)) (l.net (slot s true))
+      (l.net (l.feeder s false)) (l.net (l.feeder s true))
   -- the i-th input site is an input slot of the i-th input's net, and no other slot is one
   pub as_many_inputs : length L.inputs ≡ L.netlist.inputs
-  pub input : (i : ℕ) (s : Site) → slice_get L.inputs i ≡ Some s → IsInside (grid_of L) s × (kind_of L s ≡ Input) × (l.net (slot s false) ≡ i)
-  pub inputs_only : (s : Site) → IsInside (grid_of L) s → kind_of L s ≡ Input → (i : ℕ) × (slice_get L.inputs i ≡ Some s)
+  pub input : (i : ℕ) (s : Site) → slice_get L.inputs i ≡ Some s → IsInside (grid_of L) s
+      × (kind_of L s ≡ Input) × (l.net (slot s false) ≡ i)
+  pub inputs_only : (s : Site) → IsInside (grid_of L) s → kind_of L s ≡ Input →
+      (i : ℕ) × (slice_get L.inputs i ≡ Some s)
   -- the i-th output site is a wire of that output's net
   pub as_many_outputs : length L.outputs ≡ length L.netlist.outputs
-  pub output : (i : ℕ) (s : Site) (net : ℕ) → slice_get L.outputs i ≡ Some s → slice_get L.netlist.outputs i ≡ Some net → IsInside (grid_of L) s × (kind_of L s ≡ Wire) × (l.net (slot s false) ≡ net)
+  pub output : (i : ℕ) (s : Site) (net : ℕ) → slice_get L.outputs i ≡ Some s →
+      slice_get L.netlist.outputs i ≡ Some net → IsInside (grid_of L) s × (kind_of L s ≡ Wire)
+      × (l.net (slot s false) ≡ net)
 
 abbrev pub IsLawful : Plan → Type 0
 IsLawful L = (l : Lists) × LocalLaw L l

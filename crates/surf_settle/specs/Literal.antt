@@ -1,4 +1,5 @@
--- The local law in the words of names and rules: what a site can be named, and who could react with whom.
+-- The local law in the words of names and rules: what a site can be named, and who could react with
+-- whom.
 use Rattle.std.specs.Prelude.{◌≡◌, ℕ, ◌*◌, ◌<◌, ◌⊎◌, Bool, true, false, cond, Some, List, [], ◌∷◌, length, slice_get}
 use Rattle.surf_tiles.specs.declared.kind.Kind.{Kind}
 use Rattle.surf_tiles.specs.declared.kind.Kind.TheVariants.{Empty, Input, Value, Wire, A, B, H, V, P, Q, Gate1, Gate2, Centre}
@@ -67,9 +68,13 @@ SlotLaw L l H s = Carries L l s (λ f. IsPlain (kind_of L f.site))
 SlotLaw L l V s = Carries L l s (λ f. IsPlain (kind_of L f.site))
 SlotLaw L l P s = Carries L l s (λ f. (kind_of L f.site ≡ Centre) × (f.down ≡ false))
 SlotLaw L l Q s = Carries L l s (λ f. (kind_of L f.site ≡ Centre) × (f.down ≡ true))
-SlotLaw L l (Gate1 zero one) s = HasOne L l s (λ f. IsGate L.netlist (l.net s) (One zero one (l.net f)) × IsPlain (kind_of L f.site))
+SlotLaw L l (Gate1 zero one) s =
+    HasOne L l s (λ f. IsGate L.netlist (l.net s) (One zero one (l.net f))
+    × IsPlain (kind_of L f.site))
 SlotLaw L l (Gate2 t00 t01 t10 t11) s =
-    (f : Slot) × (g : Slot) × (l.feeders s ≡ f ∷ g ∷ []) × IsFeeder L l f s × IsFeeder L l g s × (kind_of L f.site ≡ A) × (kind_of L g.site ≡ B) × IsGate L.netlist (l.net s) (Two t00 t01 t10 t11 (l.net f) (l.net g))
+    (f : Slot) × (g : Slot) × (l.feeders s ≡ f ∷ g ∷ []) × IsFeeder L l f s × IsFeeder L l g s
+    × (kind_of L f.site ≡ A) × (kind_of L g.site ≡ B)
+    × IsGate L.netlist (l.net s) (Two t00 t01 t10 t11 (l.net f) (l.net g))
 SlotLaw L l Centre s = Carries L l s (λ f. kind_of L f.site ≡ cond s.down V H)
 
 -- the names that a site of this kind can take
@@ -87,13 +92,19 @@ pub record LiteralLaw (L : Plan) (l : SlotLists) : Type 0 where
   pub long : length L.kinds ≡ L.width * L.height
   pub in_range : (s : Slot) → IsSlot L s → l.net s < nets_of L.netlist
   pub slots : (s : Slot) → IsSlot L s → SlotLaw L l (kind_of L s.site) s
-  pub neighbours : (p q : Site) → Adjacent (grid_of L) p q → (r : Reaction) → CanTake (kind_of L p) (giver r) → CanTake (kind_of L q) (reader r) →
-      (u : Bool) × (v : Bool) × IsSlot L (slot p u) × IsSlot L (slot q v) × (Among (slot p u) (l.feeders (slot q v)) ⊎ Among (slot q v) (l.feeders (slot p u)))
+  pub neighbours : (p q : Site) → Adjacent (grid_of L) p q → (r : Reaction) →
+      CanTake (kind_of L p) (giver r) → CanTake (kind_of L q) (reader r) →
+      (u : Bool) × (v : Bool) × IsSlot L (slot p u) × IsSlot L (slot q v)
+      × (Among (slot p u) (l.feeders (slot q v)) ⊎ Among (slot q v) (l.feeders (slot p u)))
   pub as_many_inputs : length L.inputs ≡ L.netlist.inputs
-  pub input : (i : ℕ) (s : Site) → slice_get L.inputs i ≡ Some s → IsInside (grid_of L) s × (kind_of L s ≡ Input) × (l.net (slot s false) ≡ i)
-  pub inputs_only : (s : Site) → IsInside (grid_of L) s → kind_of L s ≡ Input → (i : ℕ) × (slice_get L.inputs i ≡ Some s)
+  pub input : (i : ℕ) (s : Site) → slice_get L.inputs i ≡ Some s → IsInside (grid_of L) s
+      × (kind_of L s ≡ Input) × (l.net (slot s false) ≡ i)
+  pub inputs_only : (s : Site) → IsInside (grid_of L) s → kind_of L s ≡ Input →
+      (i : ℕ) × (slice_get L.inputs i ≡ Some s)
   pub as_many_outputs : length L.outputs ≡ length L.netlist.outputs
-  pub output : (i : ℕ) (s : Site) (net : ℕ) → slice_get L.outputs i ≡ Some s → slice_get L.netlist.outputs i ≡ Some net → IsInside (grid_of L) s × (kind_of L s ≡ Wire) × (l.net (slot s false) ≡ net)
+  pub output : (i : ℕ) (s : Site) (net : ℕ) → slice_get L.outputs i ≡ Some s →
+      slice_get L.netlist.outputs i ≡ Some net → IsInside (grid_of L) s × (kind_of L s ≡ Wire)
+      × (l.net (slot s false) ≡ net)
 
 -- the law in these words gives the law of ways
 abbrev pub GivesWays : Type 0

@@ -60,7 +60,8 @@ IsDone L bits es = IsRunOf L bits es × Stuck (surface_of L) (names_after L bits
 abbrev pub events_of : Plan → ℕ
 events_of L = sum (map changes_of L.kinds)
 
--- the value that a slot of a site with this name is filled with; `down` says that it is the vertical slot of a centre
+-- the value that a slot of a site with this name is filled with; `down` says that it is the
+-- vertical slot of a centre
 abbrev pub slot_value : State → (down : Bool) → Option Bool
 slot_value Dot down = None
 slot_value Unset down = None
@@ -81,29 +82,36 @@ name_after L bits es s = slice_get (names_after L bits es) (place (grid_of L) s)
 
 -- a filled slot holds the value of its net, whichever lists show that the law holds
 abbrev pub FilledRight : Plan → List Bool → Type 0
-FilledRight L bits = (l : Lists) → LocalLaw L l → (es : List Event) → IsRunOf L bits es → (s : Site) → IsInside (grid_of L) s → (name : State) → name_after L bits es s ≡ Some (spell name) →
-    (down v : Bool) → slot_value name down ≡ Some v → v ≡ value_in (net_meaning L.netlist bits) (l.net (slot s down))
+FilledRight L bits = (l : Lists) → LocalLaw L l → (es : List Event) → IsRunOf L bits es →
+    (s : Site) → IsInside (grid_of L) s → (name : State) →
+    name_after L bits es s ≡ Some (spell name) →
+    (down v : Bool) → slot_value name down ≡ Some v → v
+    ≡ value_in (net_meaning L.netlist bits) (l.net (slot s down))
 
 abbrev pub wire_name : List ℕ
 wire_name = 119 ∷ []
 
 -- the site shows the value of the net
 abbrev pub Shows : Plan → List Bool → List Event → Site → ℕ → Type 0
-Shows L bits es s net = name_after L bits es s ≡ Some (digit (value_in (net_meaning L.netlist bits) net) ∷ [])
+Shows L bits es s net =
+    name_after L bits es s ≡ Some (digit (value_in (net_meaning L.netlist bits) net) ∷ [])
 
 -- a fact of each output's site and its net
 abbrev pub EachOutput : Plan → (Site → ℕ → Type 0) → Type 0
-EachOutput L P = (i : ℕ) (s : Site) (net : ℕ) → slice_get L.outputs i ≡ Some s → slice_get L.netlist.outputs i ≡ Some net → P s net
+EachOutput L P = (i : ℕ) (s : Site) (net : ℕ) → slice_get L.outputs i ≡ Some s →
+    slice_get L.netlist.outputs i ≡ Some net → P s net
 
 -- what every run of a layout does whose inputs are set to these bits
 pub record Settles (L : Plan) (bits : List Bool) : Type 0 where
   pub filled : FilledRight L bits
   -- an output is a blank wire or shows its net's value
-  pub safe : (es : List Event) → IsRunOf L bits es → EachOutput L (λ s net. (name_after L bits es s ≡ Some wire_name) ⊎ Shows L bits es s net)
+  pub safe : (es : List Event) → IsRunOf L bits es →
+      EachOutput L (λ s net. (name_after L bits es s ≡ Some wire_name) ⊎ Shows L bits es s net)
   pub at_most : (es : List Event) → IsRunOf L bits es → length es ≤ events_of L
   pub exactly : (es : List Event) → IsDone L bits es → length es ≡ events_of L
   pub settled : (es : List Event) → IsDone L bits es → EachOutput L (λ s net. Shows L bits es s net)
-  pub one_end : (es es' : List Event) → IsDone L bits es → IsDone L bits es' → names_after L bits es ≡ names_after L bits es'
+  pub one_end : (es es' : List Event) → IsDone L bits es → IsDone L bits es' →
+      names_after L bits es ≡ names_after L bits es'
 
 -- for all bits
 abbrev pub SettlesAlways : Plan → Type 0

@@ -10,4 +10,5 @@ use Rattle.surf_settle.specs.Settling.{circuit_rules}
 
 -- rules that are the reactions are, over texts, the rules of every circuit
 abbrev pub AreCircuitRules : Type 0
-AreCircuitRules = (texts : List (List ℕ)) (rules : List Rule) → SayAll texts rules reactions → map (λ r. renamed_rule (text_of texts) (worlds.rule_of r)) rules ≡ circuit_rules
+AreCircuitRules = (texts : List (List ℕ)) (rules : List Rule) → SayAll texts rules reactions →
+    map (λ r. renamed_rule (text_of texts) (worlds.rule_of r)) rules ≡ circuit_rules

@@ -11,7 +11,8 @@ pub data Way : Type 0 where
   By : Port → Way
   Across Down : Way
 
--- a site has up to two slots, and a slot reads up to two others: false is the first of two, and true the second
+-- a site has up to two slots, and a slot reads up to two others: false is the first of two, and
+-- true the second
 -- the way on which a slot of a site offers its value, once it is filled
 abbrev pub offers : Kind → Bool → Option Way
 offers Empty u = None

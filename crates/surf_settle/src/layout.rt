@@ -27,9 +27,11 @@ impl Model for Layout {
 
     ghost Value = { Plan };
 
-    ghost view = { λ l. plan l.netlist l.width l.height l.kinds.items l.inputs.items l.outputs.items };
+    ghost view = { λ l.
+        plan l.netlist l.width l.height l.kinds.items l.inputs.items l.outputs.items };
 
-    ghost invariant = { λ l. IsLayout (plan l.netlist l.width l.height l.kinds.items l.inputs.items l.outputs.items) };
+    ghost invariant = { λ l.
+        IsLayout (plan l.netlist l.width l.height l.kinds.items l.inputs.items l.outputs.items) };
 }
 
 impl Layout {

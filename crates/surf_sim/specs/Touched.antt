@@ -15,9 +15,11 @@ same_site p q = (p.x == q.x) && (p.y == q.y)
 abbrev pub is_new : Grid → Site → Site → Bool
 is_new g p q = not (list_any (same_site q) (around g p))
 
--- the sites of an event and their neighbours, each once: those around the first site, and then the others around the second
+-- the sites of an event and their neighbours, each once: those around the first site, and then the
+-- others around the second
 abbrev pub touched : Grid → Event → List Site
-touched g e = around g e.first ++ filter (is_new g e.first) (flat_map (around g) (option_to_list e.second))
+touched g e =
+    around g e.first ++ filter (is_new g e.first) (flat_map (around g) (option_to_list e.second))
 
 -- no site stands twice
 abbrev pub IsOnceEach : List Site → Type 0

@@ -1,3 +1,4 @@
+// The weights around an event, set anew.
 ghost use Rattle.std.specs.Prelude.{◌≡◌, ◌≤◌, ◌<◌, ◌+◌, ◌^◌, IfSome, length, slice_set, sum, IfOk};
 ghost use Rattle.std.specs.Option.{option_to_list};
 ghost use Rattle.surf_lattice.specs.Grids.{IsInside, place};

@@ -1,3 +1,4 @@
+// Simulations, and one step of them.
 ghost use Rattle.std.specs.Prelude.{◌≡◌, ◌≤◌, ◌+◌, IfOk, IfNone, IfSome, length};
 ghost use Rattle.surf_world.specs.Systems.{Enabled, Stuck};
 ghost use Rattle.surf_world.specs.Picks.{weights_of};
@@ -27,9 +28,17 @@ impl<L: Lattice, P: Picker> Model for Sim<L, P> {
 
     ghost Value = { Simulation };
 
-    ghost view = { λ s. record { placed = s.world; weights = P.weights s.picker; sets = P.sets s.picker; generator = s.draw } };
+    ghost view = { λ s.
+        record {
+          placed = s.world;
+          weights = P.weights s.picker;
+          sets = P.sets s.picker;
+          generator = s.draw;
+        } };
 
-    ghost invariant = { λ s. (P.weights s.picker ≡ weights_of s.world) × AreWeights s.world.surface.grid (P.weights s.picker) };
+    ghost invariant = { λ s.
+        (P.weights s.picker ≡ weights_of s.world)
+        × AreWeights s.world.surface.grid (P.weights s.picker) };
 }
 
 impl<L: Lattice + Drop, P: Picker> Sim<L, P> {

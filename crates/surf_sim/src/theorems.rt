@@ -1,3 +1,4 @@
+// The laws of simulations.
 ghost use Rattle.std.specs.Prelude.{◌≡◌, ◌↔◌, ℕ, ◌<◌, ◌≤◌, suc, List, [], ◌∷◌, length, map, nat_eq, bytes_eq, Some, None, IfSome, Contains};
 ghost use Rattle.rand_core.specs.Stream.{Stream};
 ghost use Rattle.surf_lattice.specs.declared.site.Site.{Site};

@@ -7,20 +7,21 @@ use Rattle.std.proofs.lemmas.List.{map-append}
 use Rattle.std.proofs.lemmas.List.FromFn.{length-map-range_with_len}
 use Rattle.std.proofs.lemmas.Option.{slice_get-map}
 use Rattle.std.proofs.Math.Nat.{mul-le-mul_right}
-use Rattle.surf_auto.specs.Locals.{LocalRule, code_count, following, sum_below}
+use Rattle.surf_auto.specs.Locals.{LocalRule, code_count, following, preceding, sum_below}
 use Rattle.surf_world.specs.Systems as systems
 use Rattle.surf_sync.specs.declared.code.Code.{Code}
 use Rattle.surf_sync.specs.declared.phase.Shown.{Shown}
 use Rattle.surf_sync.specs.declared.phase.Shown.TheVariants.{Current, Previous}
 use Rattle.surf_sync.specs.declared.table.Table.{Table}
-use Rattle.surf_sync.specs.Codes.{Mark, Protocol, IsCode, beside, fields_by, next_field, phase, protocol, read_rule}
+use Rattle.surf_sync.specs.Codes.{Mark, Protocol, IsCode, OpenBy, beside, fields_by, next_by, next_field, phase, protocol, read_rule}
 use Rattle.surf_sync.specs.Codes.Mark.{Frame, Cell}
 use Rattle.surf_sync.specs.Listing.{frame_marks, generation_marks, marks_of, start_of}
 use Rattle.surf_sync.specs.Moved.{moved}
 use Rattle.surf_sync.specs.Phases.{NamesAll, StandFrom, reads_of, state_of}
 use Rattle.surf_sync.specs.Rules.{Seen, below, codes_of, rules_of}
 use Rattle.surf_sync.specs.Tables.{IsTable}
-use Rattle.surf_sync.proofs.Listed.{codes_has}
+use Rattle.surf_sync.proofs.AfterReads.{preceding_following}
+use Rattle.surf_sync.proofs.Listed.{codes_has, next_within, phase_of_next}
 use Rattle.surf_sync.proofs.Loops.{map_map}
 use Rattle.surf_sync.proofs.Moved.{moved_codes}
 use Rattle.surf_sync.proofs.Numbered.{codes_length, flat_length, up_to}
@@ -80,6 +81,24 @@ seen_reads P r shown g k f codes listed value shows =
     same : {X Y : Type 0} (u v : X → Y) → ((x : X) → u x ≡ v x) → (xs : List X) → map u xs ≡ map v xs
     same u v h [] = refl
     same u v h (x ∷ xs) = ap (λ y. y ∷ map u xs) (h x) ∙ ap (λ ys. v x ∷ ys) (same u v h xs)
+
+-- the codes of the generation after g, where a cell at g may read
+pub record IsNext (R : LocalRule) (last : Option ℕ) (g f : ℕ) : Type 0 where
+  pub within : next_by last R.phases g < fields_by last R.phases
+  pub in_phase : following R.phases f ≡ phase R (next_by last R.phases g)
+  pub before : preceding R.phases (phase R (next_by last R.phases g)) ≡ f
+
+pub is_next : (R : LocalRule) (last : Option ℕ) (g f : ℕ) → 0 < R.phases → g < fields_by last R.phases → OpenBy last g → phase R g ≡ f → f < R.phases → IsNext R last g f
+is_next R last g f some gw opened at fw =
+    let later : following R.phases f ≡ phase R (next_by last R.phases g) = ap (following R.phases) (sym at) ∙ sym (phase_of_next last R.phases g some) in
+    record {
+      within = next_within last R.phases g some gw opened;
+      in_phase = later;
+      before = ap (preceding R.phases) (sym later) ∙ preceding_following R.phases f fw;
+    }
+
+pub colour_below : (d n k : ℕ) → n ≡ d → k ≤ n → k < suc d
+colour_below d n k e le = omega (arith, e, le)
 
 -- the rules of a reader: of the frame, of the cells of its generation, and of those of the next
 pub reader_rules : (P : Protocol) (r : Code) (f : ℕ) (codes next : List Code) → codes ≡ codes_of (protocol P.rule 0 None) f 0 0 → next ≡ codes_of (protocol P.rule 0 None) (following P.rule.phases f) 0 0 →

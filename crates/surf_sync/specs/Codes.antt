@@ -12,7 +12,8 @@ pub data Mark : Type 0 where
 
 -- ---- generations, which count the phases that a cell has gone through
 
--- The field of a code is the generation modulo three times the phases, or the generation itself where a last one is stated.
+-- The field of a code is the generation modulo three times the phases, or the generation itself
+-- where a last one is stated.
 abbrev pub field_by : Option ℕ → ℕ → ℕ → ℕ
 field_by None phases g = g % (3 * phases)
 field_by (Some last) phases g = g
@@ -37,7 +38,8 @@ WholeBy (Some last) phases = (n : ℕ) × (last ≡ n * phases)
 
 -- ---- reading
 
--- what the rules of a colony depend on: its local rule, its edge state, and the last generation, if one is stated
+-- what the rules of a colony depend on: its local rule, its edge state, and the last generation, if
+-- one is stated
 pub record Protocol : Type 0 where
   pub rule : LocalRule
   pub edge : ℕ
@@ -55,7 +57,8 @@ next_field P field = next_by P.last P.rule.phases field
 abbrev pub phase : LocalRule → ℕ → ℕ
 phase R field = field % R.phases
 
--- the colour of the neighbour in a direction of a site of this colour, by the law of colours of grids
+-- the colour of the neighbour in a direction of a site of this colour, by the law of colours of
+-- grids
 unfoldable pub beside : ℕ → ℕ → ℕ → ℕ
 beside degree colour i = (colour + (suc degree + shift_x i + 2 * shift_y i - 3)) % suc degree
 
@@ -64,7 +67,9 @@ abbrev pub sight : Protocol → Code → Mark → Option ℕ
 sight P r (Frame k) = if k == beside P.rule.degree r.colour r.reads then Some P.edge else None
 sight P r (Cell n) =
     if n.colour == beside P.rule.degree r.colour r.reads
-    then (if n.generation == r.generation then Some n.current else (if n.generation == next_field P r.generation then Some n.previous else None))
+    then (if n.generation == r.generation
+    then Some n.current
+    else (if n.generation == next_field P r.generation then Some n.previous else None))
     else None
 
 -- the code after a read of the state v
@@ -72,7 +77,8 @@ abbrev pub read : Protocol → Code → ℕ → Code
 read P r v =
     if suc r.reads == P.rule.degree
     then record {
-      current = P.rule.finish (phase P.rule r.generation) r.current (P.rule.add (phase P.rule r.generation) r.acc r.reads v);
+      current = P.rule.finish (phase P.rule r.generation) r.current
+          (P.rule.add (phase P.rule r.generation) r.acc r.reads v);
       generation = next_field P r.generation;
       colour = r.colour;
       previous = r.current;
@@ -90,7 +96,13 @@ read P r v =
 
 -- a read leaves the neighbour as it is; its rate is 1
 abbrev pub read_rule : Protocol → Code → Mark → ℕ → Rule Mark
-read_rule P r m v = record { rate = 1000000; left = Cell r; right = Some m; left_after = Cell (read P r v); right_after = Some m }
+read_rule P r m v = record {
+  rate = 1000000;
+  left = Cell r;
+  right = Some m;
+  left_after = Cell (read P r v);
+  right_after = Some m;
+}
 
 -- the codes for which rules are listed
 pub record IsCode (R : LocalRule) (last : Option ℕ) (c : Code) : Type 0 where
@@ -107,5 +119,9 @@ IsMark P (Cell c) = IsCode P.rule P.last c
 
 -- the list holds the read rules and no others
 pub record HoldsReads (P : Protocol) (rules : List (Rule Mark)) : Type 0 where
-  pub only : (k : ℕ) (r : Rule Mark) → slice_get rules k ≡ Some r → (c : Code) × (m : Mark) × (v : ℕ) × (sight P c m ≡ Some v) × (r ≡ read_rule P c m v) × OpenBy P.last c.generation × IsCode P.rule P.last c × IsMark P m
-  pub each : (c : Code) (m : Mark) (v : ℕ) → IsCode P.rule P.last c → OpenBy P.last c.generation → IsMark P m → sight P c m ≡ Some v → (k : ℕ) × (slice_get rules k ≡ Some (read_rule P c m v))
+  pub only : (k : ℕ) (r : Rule Mark) → slice_get rules k ≡ Some r →
+      (c : Code) × (m : Mark) × (v : ℕ) × (sight P c m ≡ Some v) × (r ≡ read_rule P c m v)
+      × OpenBy P.last c.generation × IsCode P.rule P.last c × IsMark P m
+  pub each : (c : Code) (m : Mark) (v : ℕ) →
+      IsCode P.rule P.last c → OpenBy P.last c.generation → IsMark P m → sight P c m ≡ Some v →
+      (k : ℕ) × (slice_get rules k ≡ Some (read_rule P c m v))

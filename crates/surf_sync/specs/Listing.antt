@@ -28,7 +28,9 @@ marks_of P = frame_marks P ++ flat_map (generation_marks P) (below (fields_by P.
 
 -- where the cells of a generation begin
 abbrev pub start_of : Protocol → ℕ → ℕ
-start_of P generation = suc P.rule.degree + sum_below (λ g. suc P.rule.degree * code_count P.rule (phase P.rule g)) generation
+start_of P generation =
+    suc P.rule.degree
+    + sum_below (λ g. suc P.rule.degree * code_count P.rule (phase P.rule g)) generation
 
 -- the texts with more, each of which goes last where it is new
 abbrev pub with_texts : List (List ℕ) → List (List ℕ) → List (List ℕ)
@@ -44,7 +46,8 @@ abbrev pub Name : List (List ℕ) → List ℕ → List (List ℕ) → Type 0
 Name names numbers texts = map (slice_get names) numbers ≡ map Some texts
 
 -- more texts were numbered
-pub record Numbers (old : List (List ℕ)) (before : List ℕ) (texts : List (List ℕ)) (new : List (List ℕ)) (after : List ℕ) : Type 0 where
+pub record Numbers (old : List (List ℕ)) (before : List ℕ) (texts : List (List ℕ))
+    (new : List (List ℕ)) (after : List ℕ) : Type 0 where
   pub names : new ≡ with_texts old texts
   pub numbers : (known : List (List ℕ)) → Name old before known → Name new after (known ++ texts)
 
@@ -61,4 +64,5 @@ Say texts rules marked = map (said texts) rules ≡ map spelled marked
 
 -- these rules were added
 abbrev pub Adds : List (List ℕ) → List Rule → List (systems.Rule Mark) → List Rule → Type 0
-Adds texts before marked after = (known : List (systems.Rule Mark)) → Say texts before known → Say texts after (known ++ marked)
+Adds texts before marked after =
+    (known : List (systems.Rule Mark)) → Say texts before known → Say texts after (known ++ marked)

@@ -10,7 +10,14 @@ use Rattle.surf_sync.specs.Spelling.{spell}
 
 -- the same code at another generation and colour
 abbrev pub moved : ℕ → ℕ → Code → Code
-moved generation colour c = record { current = c.current; generation = generation; colour = colour; previous = c.previous; reads = c.reads; acc = c.acc }
+moved generation colour c = record {
+  current = c.current;
+  generation = generation;
+  colour = colour;
+  previous = c.previous;
+  reads = c.reads;
+  acc = c.acc;
+}
 
 abbrev pub frame_texts : ℕ → List (List ℕ)
 frame_texts colours = map (λ k. spell (Frame k)) (below colours)

@@ -16,12 +16,14 @@ previous_count P f = P.rule.states (preceding P.rule.phases f)
 
 abbrev pub reader_number : Protocol → ℕ → Code → ℕ
 reader_number P f c =
-    (((c.current * turns_of P + c.generation / P.rule.phases) * suc P.rule.degree + c.colour) * previous_count P f + c.previous) * place_count P.rule f
-    + place_number P f c
+    (((c.current * turns_of P + c.generation / P.rule.phases) * suc P.rule.degree + c.colour)
+    * previous_count P f + c.previous)
+    * place_count P.rule f + place_number P f c
 
 -- the number of a code among those of its phase, generation and colour
 abbrev pub code_number : Protocol → ℕ → Code → ℕ
-code_number P f c = (c.current * previous_count P f + c.previous) * place_count P.rule f + place_number P f c
+code_number P f c =
+    (c.current * previous_count P f + c.previous) * place_count P.rule f + place_number P f c
 
 -- the number of what a reader sees: the frame, a cell of its generation, or one of the next
 abbrev pub sight_number : Protocol → ℕ → Code → Mark → ℕ
@@ -37,4 +39,6 @@ phase_rules P f = reader_count (turns_of P) P.rule f * sight_count P.rule f
 abbrev pub rule_number : Protocol → Code → Mark → ℕ
 rule_number P c m =
     sum_below (phase_rules P) (phase P.rule c.generation)
-    + (reader_number P (phase P.rule c.generation) c * sight_count P.rule (phase P.rule c.generation) + sight_number P (phase P.rule c.generation) c m)
+    + (reader_number P (phase P.rule c.generation) c
+    * sight_count P.rule (phase P.rule c.generation)
+    + sight_number P (phase P.rule c.generation) c m)

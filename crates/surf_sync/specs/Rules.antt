@@ -24,21 +24,39 @@ pub record Place : Type 0 where
 
 -- the values of reads and acc, in order
 abbrev pub places_of : Protocol → ℕ → List Place
-places_of P f = flat_map (λ r. map (λ a. record { reads = r; acc = a }) (below (P.rule.accs f r))) (below P.rule.degree)
+places_of P f =
+    flat_map (λ r. map (λ a. record { reads = r; acc = a }) (below (P.rule.accs f r)))
+    (below P.rule.degree)
 
 abbrev pub code_of : ℕ → ℕ → ℕ → ℕ → Place → Code
-code_of current field colour previous at = record { current = current; generation = field; colour = colour; previous = previous; reads = at.reads; acc = at.acc }
+code_of current field colour previous at = record {
+  current = current;
+  generation = field;
+  colour = colour;
+  previous = previous;
+  reads = at.reads;
+  acc = at.acc;
+}
 
 -- the codes of phase f with this generation and colour
 abbrev pub codes_of : Protocol → ℕ → ℕ → ℕ → List Code
 codes_of P f field colour =
-    flat_map (λ current. flat_map (λ previous. map (code_of current field colour previous) (places_of P f)) (below (P.rule.states (preceding P.rule.phases f)))) (below (P.rule.states f))
+    flat_map (λ current.
+    flat_map (λ previous. map (code_of current field colour previous) (places_of P f))
+    (below (P.rule.states (preceding P.rule.phases f)))) (below (P.rule.states f))
 
 -- the readers of phase f
 abbrev pub readers_of : Protocol → ℕ → List Code
 readers_of P f =
-    flat_map (λ current. flat_map (λ turn. flat_map (λ colour. flat_map (λ previous. map (code_of current (turn * P.rule.phases + f) colour previous) (places_of P f))
-    (below (P.rule.states (preceding P.rule.phases f)))) (below (suc P.rule.degree))) (below (turns_of P))) (below (P.rule.states f))
+    flat_map (λ current.
+    flat_map (λ turn.
+    flat_map (λ colour.
+    flat_map (λ previous.
+    map (code_of current (turn * P.rule.phases + f) colour previous) (places_of P f))
+    (below (P.rule.states (preceding P.rule.phases f))))
+    (below (suc P.rule.degree)))
+    (below (turns_of P)))
+    (below (P.rule.states f))
 
 pub record Seen : Type 0 where
   pub mark : Mark
@@ -48,8 +66,11 @@ pub record Seen : Type 0 where
 abbrev pub sights_of : Protocol → ℕ → Code → List Seen
 sights_of P f r =
     record { mark = Frame (beside P.rule.degree r.colour r.reads); value = P.edge }
-    ∷ (map (λ c. record { mark = Cell c; value = c.current }) (codes_of P f r.generation (beside P.rule.degree r.colour r.reads))
-    ++ map (λ c. record { mark = Cell c; value = c.previous }) (codes_of P (following P.rule.phases f) (next_field P r.generation) (beside P.rule.degree r.colour r.reads)))
+    ∷ (map (λ c. record { mark = Cell c; value = c.current })
+    (codes_of P f r.generation (beside P.rule.degree r.colour r.reads))
+    ++ map (λ c. record { mark = Cell c; value = c.previous })
+    (codes_of P (following P.rule.phases f) (next_field P r.generation)
+    (beside P.rule.degree r.colour r.reads)))
 
 unfoldable pub rules_of : Protocol → ℕ → Code → List (Rule Mark)
 rules_of P f r = map (λ s. read_rule P r s.mark s.value) (sights_of P f r)

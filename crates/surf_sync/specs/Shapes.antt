@@ -7,7 +7,9 @@ use Rattle.surf_sync.specs.Rules.{below, code_of}
 
 -- those that differ in what was gathered
 abbrev pub by_acc : LocalRule → ℕ → ℕ → ℕ → ℕ → List Code
-by_acc R f current previous reads = map (λ acc. code_of current 0 0 previous (record { reads = reads; acc = acc })) (below (R.accs f reads))
+by_acc R f current previous reads =
+    map (λ acc. code_of current 0 0 previous (record { reads = reads; acc = acc }))
+    (below (R.accs f reads))
 
 -- and in how often it was read
 abbrev pub by_reads : LocalRule → ℕ → ℕ → ℕ → List Code

@@ -11,7 +11,13 @@ use Rattle.surf_sync.specs.Codes.Mark.{Frame, Cell}
 
 -- six decimals joined by '_', or "E_" and a decimal
 abbrev pub spell : Mark → List ℕ
-spell (Cell c) = decimal c.current ++ 95 ∷ (decimal c.generation ++ 95 ∷ (decimal c.colour ++ 95 ∷ (decimal c.previous ++ 95 ∷ (decimal c.reads ++ 95 ∷ decimal c.acc))))
+spell (Cell c) =
+    decimal c.current
+    ++ 95 ∷ (decimal c.generation
+    ++ 95 ∷ (decimal c.colour
+    ++ 95 ∷ (decimal c.previous
+    ++ 95 ∷ (decimal c.reads
+    ++ 95 ∷ decimal c.acc))))
 spell (Frame k) = 69 ∷ 95 ∷ decimal k
 
 -- ---- names are read back
@@ -60,11 +66,19 @@ code_in name =
     and_then (part_behind c) (λ d.
     and_then (part_behind d) (λ e.
     and_then (part_behind e) (λ f.
-    if_last f (record { current = a.number; generation = b.number; colour = c.number; previous = d.number; reads = e.number; acc = f.number })))))))
+    if_last f (record {
+      current = a.number;
+      generation = b.number;
+      colour = c.number;
+      previous = d.number;
+      reads = e.number;
+      acc = f.number;
+    })))))))
 
 -- the colour of the frame that a name spells
 abbrev pub frame_in : List ℕ → Option ℕ
-frame_in name = if bytes_eq (before 95 name) (codes "E") then and_then (after 95 name) number_of else None
+frame_in name =
+    if bytes_eq (before 95 name) (codes "E") then and_then (after 95 name) number_of else None
 
 -- numbers that fit
 pub record IsSmall (c : Code) : Type 0 where
@@ -82,7 +96,8 @@ pub record Showing : Type 0 where
   pub generation : ℕ
 
 abbrev pub shown_by : List ℕ → Option Showing
-shown_by name = option_map (λ c. record { state = c.current; generation = c.generation }) (code_in name)
+shown_by name =
+    option_map (λ c. record { state = c.current; generation = c.generation }) (code_in name)
 
 -- at a place of a configuration
 abbrev pub shown_at : {N : Type 0} → (N → Option Showing) → Option N → Option Showing

@@ -39,7 +39,8 @@ fn read_number(text: &[u8]) -> Option<u32>
 }
 
 fn read_part(text: &[u8]) -> Option<Part<'_>>
-    ensures { MatchOption result (part_of text.now ≡ None) (λ p. part_of text.now ≡ Some (part_by p)) }
+    ensures { MatchOption result (part_of text.now ≡ None)
+        (λ p. part_of text.now ≡ Some (part_by p)) }
 {
     let (front, rest) = cut(text, b'_');
     let number = read_number(front)?;

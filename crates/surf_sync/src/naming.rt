@@ -22,7 +22,8 @@ use surf_rules::Names;
 // Adds the number of a name.
 fn push_number(names: &mut Names, numbers: &mut Vec<u32>, name: &[u8]) -> Result<(), NoMemory>
     requires room { length names.old < 2 ^ 32 - 1 }
-    ensures numbers { OnOk result (Numbers names.old numbers.old.items (name.now ∷ []) names.new numbers.new.items) }
+    ensures numbers { OnOk result
+        (Numbers names.old numbers.old.items (name.now ∷ []) names.new numbers.new.items) }
     ensures count { OnOk result (length numbers.new.items ≡ length numbers.old.items + 1) }
     ensures keeps { Keeps names.old names.new }
 {
@@ -40,8 +41,10 @@ fn number_frame(
 ) -> Result<(), NoMemory>
     requires degree { degree ≤ 6 }
     requires room { length names.old + (degree + 1) < 2 ^ 32 }
-    ensures numbers { OnOk result (Numbers names.old numbers.old.items (frame_texts (degree + 1)) names.new numbers.new.items) }
-    ensures count { OnOk result (length numbers.new.items ≡ length numbers.old.items + (degree + 1)) }
+    ensures numbers { let texts = frame_texts (degree + 1) in
+        OnOk result (Numbers names.old numbers.old.items texts names.new numbers.new.items) }
+    ensures count { OnOk result
+        (length numbers.new.items ≡ length numbers.old.items + (degree + 1)) }
     ensures keeps { Keeps names.old names.new }
 {
     for colour in 0..degree + 1 {
@@ -61,8 +64,10 @@ fn number_block(
     numbers: &mut Vec<u32>,
 ) -> Result<(), NoMemory>
     requires room { length names.old + length codes.now < 2 ^ 32 }
-    ensures numbers { OnOk result (Numbers names.old numbers.old.items (block_texts codes.now generation colour) names.new numbers.new.items) }
-    ensures count { OnOk result (length numbers.new.items ≡ length numbers.old.items + length codes.now) }
+    ensures numbers { let texts = block_texts codes.now generation colour in
+        OnOk result (Numbers names.old numbers.old.items texts names.new numbers.new.items) }
+    ensures count { OnOk result
+        (length numbers.new.items ≡ length numbers.old.items + length codes.now) }
     ensures keeps { Keeps names.old names.new }
 {
     for code in codes {
@@ -91,8 +96,10 @@ fn number_generation(
 ) -> Result<(), NoMemory>
     requires degree { degree ≤ 6 }
     requires room { length names.old + (degree + 1) * length codes.now < 2 ^ 32 }
-    ensures numbers { OnOk result (Numbers names.old numbers.old.items (generation_texts codes.now generation (degree + 1)) names.new numbers.new.items) }
-    ensures count { OnOk result (length numbers.new.items ≡ length numbers.old.items + (degree + 1) * length codes.now) }
+    ensures numbers { let texts = generation_texts codes.now generation (degree + 1) in
+        OnOk result (Numbers names.old numbers.old.items texts names.new numbers.new.items) }
+    ensures count { OnOk result
+        (length numbers.new.items ≡ length numbers.old.items + (degree + 1) * length codes.now) }
     ensures keeps { Keeps names.old names.new }
 {
     for colour in 0..degree + 1 {
@@ -110,9 +117,13 @@ fn number_cells<L: Local>(
     numbers: &mut Vec<u32>,
 ) -> Result<Vec<usize>, NoMemory>
     requires room { length names.old + length (all_texts (L.rule local.now) generations) < 2 ^ 32 }
-    ensures numbers { OnOk result (Numbers names.old numbers.old.items (all_texts (L.rule local.now) generations) names.new numbers.new.items) }
-    ensures starts { IfOk result (λ v. v.items ≡ map (λ g. length numbers.old.items + length (all_texts (L.rule local.now) g)) (below generations)) }
-    ensures count { OnOk result (length numbers.new.items ≡ length numbers.old.items + length (all_texts (L.rule local.now) generations)) }
+    ensures numbers { let texts = all_texts (L.rule local.now) generations in
+        OnOk result (Numbers names.old numbers.old.items texts names.new numbers.new.items) }
+    ensures starts { let before = length numbers.old.items in
+        IfOk result (λ v. v.items
+        ≡ map (λ g. before + length (all_texts (L.rule local.now) g)) (below generations)) }
+    ensures count { let texts = all_texts (L.rule local.now) generations in
+        OnOk result (length numbers.new.items ≡ length numbers.old.items + length texts) }
     ensures keeps { Keeps names.old names.new }
 {
     let mut starts = Vec::new(alloc);
@@ -134,11 +145,14 @@ pub fn number_names<L: Local>(
     requires whole { WholeBy last (L.rule local.now).phases }
     requires turns { 0 < turns_by last (L.rule local.now).phases }
     requires small { fields_by last (L.rule local.now).phases < 2 ^ 32 }
-    requires few { rule_count_in (turns_by last (L.rule local.now).phases) (L.rule local.now) ≤ 1048576 }
+    requires few { let R = L.rule local.now in
+        rule_count_in (turns_by last R.phases) R ≤ 1048576 }
     requires room { length names.old ≤ 2147483648 }
     ensures table { IfOk result (IsTable (protocol (L.rule local.now) 0 last)) }
-    ensures named { IfOk result (λ t. Name names.new t.numbers.items (map spell (marks_of (protocol (L.rule local.now) 0 last)))) }
-    ensures names { OnOk result (names.new ≡ with_texts names.old (map spell (marks_of (protocol (L.rule local.now) 0 last)))) }
+    ensures named { let P = protocol (L.rule local.now) 0 last in
+        IfOk result (λ t. Name names.new t.numbers.items (map spell (marks_of P))) }
+    ensures names { let P = protocol (L.rule local.now) 0 last in
+        OnOk result (names.new ≡ with_texts names.old (map spell (marks_of P))) }
     ensures keeps { Keeps names.old names.new }
 {
     let degree = local.degree();

@@ -66,9 +66,11 @@ fn push_reads(
     shown: Shown,
 ) -> Result<(), NoMemory>
     requires room { start + length codes.now ≤ length numbers.now }
-    requires states { (i : ℕ) (c : Code) → slice_get codes.now i ≡ Some c → state_of shown c < length afters.now }
-    ensures { OnOk result ((texts : List (List ℕ)) (P : Protocol) (reader : Code) (g : ℕ) (k : ℕ) →
-        Knows texts P reader left afters.now → StandFrom texts numbers.now start (map (moved g k) codes.now) →
+    requires states { (i : ℕ) (c : Code) → slice_get codes.now i ≡ Some c →
+        state_of shown c < length afters.now }
+    ensures { OnOk result ((texts : List (List ℕ)) (P : Protocol) (reader : Code) (g k : ℕ) →
+        Knows texts P reader left afters.now →
+        StandFrom texts numbers.now start (map (moved g k) codes.now) →
         Adds texts out.old.items (reads_of P reader shown g k codes.now) out.new.items) }
 {
     for i in 0..codes.len() {
@@ -107,7 +109,8 @@ pub fn code_count<L: Local>(local: &L, phase: u32) -> u32
 fn code_number<L: Local>(local: &L, phase: u32, code: &Code) -> u32
     requires phase { phase < (L.rule local.now).phases }
     requires current { code.now.current < (L.rule local.now).states phase }
-    requires previous { code.now.previous < (L.rule local.now).states (preceding (L.rule local.now).phases phase) }
+    requires previous { let R = L.rule local.now in
+        code.now.previous < R.states (preceding R.phases phase) }
     requires reads { code.now.reads < (L.rule local.now).degree }
     requires acc { code.now.acc < (L.rule local.now).accs phase code.now.reads }
     ensures { result ≡ code_number (protocol (L.rule local.now) 0 None) phase code.now }
@@ -122,7 +125,8 @@ fn code_number<L: Local>(local: &L, phase: u32, code: &Code) -> u32
 fn number_at<L: Local>(local: &L, last: Option<u32>, table: &Table, code: &Code) -> u32
     requires table { IsTable (protocol (L.rule local.now) 0 last) table.now }
     requires code { IsCode (L.rule local.now) last code.now }
-    ensures { (texts : List (List ℕ)) → NamesAll (protocol (L.rule local.now) 0 last) texts table.now →
+    ensures { (texts : List (List ℕ)) →
+        NamesAll (protocol (L.rule local.now) 0 last) texts table.now →
         slice_get texts result ≡ Some (spell (Cell code.now)) }
 {
     let phase = phase_of(local, code.generation);
@@ -134,7 +138,8 @@ fn number_at<L: Local>(local: &L, last: Option<u32>, table: &Table, code: &Code)
 // Where the codes of a generation and colour begin, of which there are so many.
 fn block_start(table: &Table, count: usize, generation: u32, colour: u32) -> usize
     requires listed { generation < length table.now.starts.items }
-    requires room { slice_index table.now.starts.items generation + colour * count ≤ length table.now.numbers.items }
+    requires room { let t = table.now in
+        slice_index t.starts.items generation + colour * count ≤ length t.numbers.items }
     ensures { result ≡ slice_index table.now.starts.items generation + colour * count }
 {
     table.starts[generation as usize] + colour as usize * count
@@ -173,13 +178,18 @@ fn number_afters<L: Local>(
     stage: &Phase<'_, L>,
     reader: &Code,
 ) -> Result<Vec<u32>, NoMemory>
-    requires stands { IsPhase (protocol (L.rule stage.now.local.now) stage.now.edge stage.now.last) stage.now.number stage.now.table.now stage.now.codes.now stage.now.next.now }
+    requires stands { let s = stage.now in let P = protocol (L.rule s.local.now) s.edge s.last in
+        IsPhase P s.number s.table.now s.codes.now s.next.now }
     requires reader { IsCode (L.rule stage.now.local.now) stage.now.last reader.now }
     requires opened { OpenBy stage.now.last reader.now.generation }
-    requires number { phase (L.rule stage.now.local.now) reader.now.generation ≡ stage.now.number }
-    ensures count { IfOk result (λ v. length v.items ≡ (L.rule stage.now.local.now).states stage.now.number) }
-    ensures named { IfOk result (λ v. (texts : List (List ℕ)) → NamesAll (protocol (L.rule stage.now.local.now) stage.now.edge stage.now.last) texts stage.now.table.now →
-        Name texts v.items (map (λ s. spell (Cell (read (protocol (L.rule stage.now.local.now) stage.now.edge stage.now.last) reader.now s))) (below (length v.items)))) }
+    requires number { let s = stage.now in
+        phase (L.rule s.local.now) reader.now.generation ≡ s.number }
+    ensures count { let s = stage.now in
+        IfOk result (λ v. length v.items ≡ (L.rule s.local.now).states s.number) }
+    ensures named { let s = stage.now in let P = protocol (L.rule s.local.now) s.edge s.last in
+        IfOk result (λ v. (texts : List (List ℕ)) → NamesAll P texts s.table.now →
+        Name texts v.items
+        (map (λ v. spell (Cell (read P reader.now v))) (below (length v.items)))) }
 {
     let mut afters = Vec::new(alloc);
     for state in 0..stage.local.states(stage.number) {
@@ -199,12 +209,15 @@ fn push_reader<L: Local>(
     stage: &Phase<'_, L>,
     reader: &Code,
 ) -> Result<(), NoMemory>
-    requires stands { IsPhase (protocol (L.rule stage.now.local.now) stage.now.edge stage.now.last) stage.now.number stage.now.table.now stage.now.codes.now stage.now.next.now }
+    requires stands { let s = stage.now in let P = protocol (L.rule s.local.now) s.edge s.last in
+        IsPhase P s.number s.table.now s.codes.now s.next.now }
     requires reader { IsCode (L.rule stage.now.local.now) stage.now.last reader.now }
     requires opened { OpenBy stage.now.last reader.now.generation }
-    requires number { phase (L.rule stage.now.local.now) reader.now.generation ≡ stage.now.number }
-    ensures { OnOk result ((texts : List (List ℕ)) → NamesAll (protocol (L.rule stage.now.local.now) stage.now.edge stage.now.last) texts stage.now.table.now →
-        Adds texts out.old.items (rules_of (protocol (L.rule stage.now.local.now) stage.now.edge stage.now.last) stage.now.number reader.now) out.new.items) }
+    requires number { let s = stage.now in
+        phase (L.rule s.local.now) reader.now.generation ≡ s.number }
+    ensures { let s = stage.now in let P = protocol (L.rule s.local.now) s.edge s.last in
+        OnOk result ((texts : List (List ℕ)) → NamesAll P texts s.table.now →
+        Adds texts out.old.items (rules_of P s.number reader.now) out.new.items) }
 {
     let local = stage.local;
     let numbers = stage.table.numbers.as_slice();
@@ -249,14 +262,17 @@ fn push_row<L: Local>(
     generation: u32,
     colour: u32,
 ) -> Result<(), NoMemory>
-    requires stands { IsPhase (protocol (L.rule stage.now.local.now) stage.now.edge stage.now.last) stage.now.number stage.now.table.now stage.now.codes.now stage.now.next.now }
-    requires row { AreListed (protocol (L.rule stage.now.local.now) stage.now.edge stage.now.last) stage.now.number row.now }
+    requires stands { let s = stage.now in let P = protocol (L.rule s.local.now) s.edge s.last in
+        IsPhase P s.number s.table.now s.codes.now s.next.now }
+    requires row { let s = stage.now in let P = protocol (L.rule s.local.now) s.edge s.last in
+        AreListed P s.number row.now }
     requires listed { generation < fields_by stage.now.last (L.rule stage.now.local.now).phases }
     requires opened { OpenBy stage.now.last generation }
     requires number { phase (L.rule stage.now.local.now) generation ≡ stage.now.number }
     requires colour { colour < suc (L.rule stage.now.local.now).degree }
-    ensures { OnOk result ((texts : List (List ℕ)) → NamesAll (protocol (L.rule stage.now.local.now) stage.now.edge stage.now.last) texts stage.now.table.now →
-        Adds texts out.old.items (row_rules (protocol (L.rule stage.now.local.now) stage.now.edge stage.now.last) stage.now.number row.now generation colour) out.new.items) }
+    ensures { let s = stage.now in let P = protocol (L.rule s.local.now) s.edge s.last in
+        OnOk result ((texts : List (List ℕ)) → NamesAll P texts s.table.now →
+        Adds texts out.old.items (row_rules P s.number row.now generation colour) out.new.items) }
 {
     for code in row {
         let reader = Code {
@@ -280,13 +296,16 @@ fn push_colours<L: Local>(
     row: &[Code],
     generation: u32,
 ) -> Result<(), NoMemory>
-    requires stands { IsPhase (protocol (L.rule stage.now.local.now) stage.now.edge stage.now.last) stage.now.number stage.now.table.now stage.now.codes.now stage.now.next.now }
-    requires row { AreListed (protocol (L.rule stage.now.local.now) stage.now.edge stage.now.last) stage.now.number row.now }
+    requires stands { let s = stage.now in let P = protocol (L.rule s.local.now) s.edge s.last in
+        IsPhase P s.number s.table.now s.codes.now s.next.now }
+    requires row { let s = stage.now in let P = protocol (L.rule s.local.now) s.edge s.last in
+        AreListed P s.number row.now }
     requires listed { generation < fields_by stage.now.last (L.rule stage.now.local.now).phases }
     requires opened { OpenBy stage.now.last generation }
     requires number { phase (L.rule stage.now.local.now) generation ≡ stage.now.number }
-    ensures { OnOk result ((texts : List (List ℕ)) → NamesAll (protocol (L.rule stage.now.local.now) stage.now.edge stage.now.last) texts stage.now.table.now →
-        Adds texts out.old.items (colour_rules (protocol (L.rule stage.now.local.now) stage.now.edge stage.now.last) stage.now.number row.now generation) out.new.items) }
+    ensures { let s = stage.now in let P = protocol (L.rule s.local.now) s.edge s.last in
+        OnOk result ((texts : List (List ℕ)) → NamesAll P texts s.table.now →
+        Adds texts out.old.items (colour_rules P s.number row.now generation) out.new.items) }
 {
     for colour in 0..stage.local.degree() + 1 {
         push_row(alloc, out, stage, row, generation, colour)?;
@@ -312,10 +331,13 @@ fn push_turns<L: Local>(
     stage: &Phase<'_, L>,
     row: &[Code],
 ) -> Result<(), NoMemory>
-    requires stands { IsPhase (protocol (L.rule stage.now.local.now) stage.now.edge stage.now.last) stage.now.number stage.now.table.now stage.now.codes.now stage.now.next.now }
-    requires row { AreListed (protocol (L.rule stage.now.local.now) stage.now.edge stage.now.last) stage.now.number row.now }
-    ensures { OnOk result ((texts : List (List ℕ)) → NamesAll (protocol (L.rule stage.now.local.now) stage.now.edge stage.now.last) texts stage.now.table.now →
-        Adds texts out.old.items (turn_rules (protocol (L.rule stage.now.local.now) stage.now.edge stage.now.last) stage.now.number row.now) out.new.items) }
+    requires stands { let s = stage.now in let P = protocol (L.rule s.local.now) s.edge s.last in
+        IsPhase P s.number s.table.now s.codes.now s.next.now }
+    requires row { let s = stage.now in let P = protocol (L.rule s.local.now) s.edge s.last in
+        AreListed P s.number row.now }
+    ensures { let s = stage.now in let P = protocol (L.rule s.local.now) s.edge s.last in
+        OnOk result ((texts : List (List ℕ)) → NamesAll P texts s.table.now →
+        Adds texts out.old.items (turn_rules P s.number row.now) out.new.items) }
 {
     // shows the proof that there is a phase
     let _degree = stage.local.degree();
@@ -332,9 +354,11 @@ pub fn push_phase<L: Local>(
     out: &mut Vec<Rule>,
     stage: &Phase<'_, L>,
 ) -> Result<(), NoMemory>
-    requires { IsPhase (protocol (L.rule stage.now.local.now) stage.now.edge stage.now.last) stage.now.number stage.now.table.now stage.now.codes.now stage.now.next.now }
-    ensures { OnOk result ((texts : List (List ℕ)) → NamesAll (protocol (L.rule stage.now.local.now) stage.now.edge stage.now.last) texts stage.now.table.now →
-        Adds texts out.old.items (current_rules (protocol (L.rule stage.now.local.now) stage.now.edge stage.now.last) stage.now.number) out.new.items) }
+    requires { let s = stage.now in let P = protocol (L.rule s.local.now) s.edge s.last in
+        IsPhase P s.number s.table.now s.codes.now s.next.now }
+    ensures { let s = stage.now in let P = protocol (L.rule s.local.now) s.edge s.last in
+        OnOk result ((texts : List (List ℕ)) → NamesAll P texts s.table.now →
+        Adds texts out.old.items (current_rules P s.number) out.new.items) }
 {
     for current in 0..stage.local.states(stage.number) {
         let mut row = Vec::new(alloc);

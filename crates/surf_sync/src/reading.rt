@@ -61,13 +61,14 @@ pub fn colour_beside(degree: u32, colour: u32, direction: u32) -> u32
     (colour + ahead) % (degree + 1)
 }
 
-/// The code of a cell after it read this state in its next direction. At the last direction it comes
-/// to the next generation.
+/// The code of a cell after it read this state in its next direction. At the last direction it
+/// comes to the next generation.
 pub fn read<L: Local>(local: &L, last: Option<u32>, reader: &Code, state: u32) -> Code
     requires code { IsCode (L.rule local.now) last reader.now }
     requires opened { OpenBy last reader.now.generation }
     requires few { fields_by last (L.rule local.now).phases < 2 ^ 32 }
-    requires state { state < (L.rule local.now).states (phase (L.rule local.now) reader.now.generation) }
+    requires state { let R = L.rule local.now in
+        state < R.states (phase R reader.now.generation) }
     ensures read { result ≡ read (protocol (L.rule local.now) 0 last) reader.now state }
     ensures code { IsCode (L.rule local.now) last result }
 {

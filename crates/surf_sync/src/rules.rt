@@ -21,7 +21,8 @@ use surf_rules::{Names, Rule};
 // The number of rules of the readers of a phase.
 fn phase_rules<L: Local>(local: &L, turns: u32, phase: u32) -> u128
     requires { phase < (L.rule local.now).phases }
-    ensures count { result ≡ reader_count turns (L.rule local.now) phase * sight_count (L.rule local.now) phase }
+    ensures count { let R = L.rule local.now in
+        result ≡ reader_count turns R phase * sight_count R phase }
     ensures few { result < 2 ^ 102 }
 {
     let colours = u128::from(local.degree()) + 1;
@@ -72,8 +73,9 @@ fn push_phases<L: Local>(
     requires whole { WholeBy last (L.rule local.now).phases }
     requires small { fields_by last (L.rule local.now).phases < 2 ^ 32 }
     requires table { IsTable (protocol (L.rule local.now) 0 last) table.now }
-    ensures { OnOk result ((texts : List (List ℕ)) → NamesAll (protocol (L.rule local.now) edge last) texts table.now →
-        Adds texts out.old.items (sync_rules (protocol (L.rule local.now) edge last)) out.new.items) }
+    ensures { let P = protocol (L.rule local.now) edge last in
+        OnOk result ((texts : List (List ℕ)) → NamesAll P texts table.now →
+        Adds texts out.old.items (sync_rules P) out.new.items) }
 {
     for phase in 0..local.phases() {
         let codes = phase_codes(alloc, local, phase)?;
@@ -104,10 +106,13 @@ fn write_rules<L: Local>(
     requires whole { WholeBy last (L.rule local.now).phases }
     requires turns { 0 < turns_by last (L.rule local.now).phases }
     requires small { fields_by last (L.rule local.now).phases < 2 ^ 32 }
-    requires few { rule_count_in (turns_by last (L.rule local.now).phases) (L.rule local.now) ≤ 1048576 }
+    requires few { let R = L.rule local.now in
+        rule_count_in (turns_by last R.phases) R ≤ 1048576 }
     requires room { length names.old ≤ 2147483648 }
-    ensures rules { IfOk result (λ v. Say names.new v.items (sync_rules (protocol (L.rule local.now) edge last))) }
-    ensures names { OnOk result (names.new ≡ with_texts names.old (map spell (marks_of (protocol (L.rule local.now) 0 last)))) }
+    ensures rules { let P = protocol (L.rule local.now) edge last in
+        IfOk result (λ v. Say names.new v.items (sync_rules P)) }
+    ensures names { let P = protocol (L.rule local.now) 0 last in
+        OnOk result (names.new ≡ with_texts names.old (map spell (marks_of P))) }
     ensures keeps { Keeps names.old names.new }
 {
     let table = number_names(alloc, local, last, names)?;
@@ -119,9 +124,9 @@ fn write_rules<L: Local>(
     Ok(rules)
 }
 
-/// The rules of a colony of this local rule and edge state, each at its number. Names that were there
-/// keep their numbers; those of the colony go last, where they are new. On `NoMemory` some names may
-/// have been added.
+/// The rules of a colony of this local rule and edge state, each at its number. Names that were
+/// there keep their numbers; those of the colony go last, where they are new. On `NoMemory` some
+/// names may have been added.
 ///
 /// Each name is spelled and looked up once, and the list of rules is reserved once.
 pub fn sync_rules<L: Local>(
@@ -135,8 +140,10 @@ pub fn sync_rules<L: Local>(
     requires edge { (f : ℕ) → f < (L.rule local.now).phases → edge < (L.rule local.now).states f }
     requires few { rule_count (L.rule local.now) ≤ 1048576 }
     requires room { length names.old ≤ 2147483648 }
-    ensures rules { IfOk result (λ v. Say names.new v.items (sync_rules (protocol (L.rule local.now) edge None))) }
-    ensures names { OnOk result (names.new ≡ with_texts names.old (map spell (marks_of (protocol (L.rule local.now) 0 None)))) }
+    ensures rules { let P = protocol (L.rule local.now) edge None in
+        IfOk result (λ v. Say names.new v.items (sync_rules P)) }
+    ensures names { let P = protocol (L.rule local.now) 0 None in
+        OnOk result (names.new ≡ with_texts names.old (map spell (marks_of P))) }
     ensures keeps { Keeps names.old names.new }
 {
     // shows the proof that the phases are few
@@ -159,8 +166,12 @@ pub fn sync_rules_last<L: Local>(
     requires limit { last ≤ 1000000 }
     requires few { rule_count_in last (L.rule local.now) ≤ 1048576 }
     requires room { length names.old ≤ 2147483648 }
-    ensures rules { IfOk result (λ v. Say names.new v.items (sync_rules (protocol (L.rule local.now) edge (Some (last * (L.rule local.now).phases))))) }
-    ensures names { OnOk result (names.new ≡ with_texts names.old (map spell (marks_of (protocol (L.rule local.now) 0 (Some (last * (L.rule local.now).phases)))))) }
+    ensures rules { let R = L.rule local.now in
+        let P = protocol R edge (Some (last * R.phases)) in
+        IfOk result (λ v. Say names.new v.items (sync_rules P)) }
+    ensures names { let R = L.rule local.now in
+        let P = protocol R 0 (Some (last * R.phases)) in
+        OnOk result (names.new ≡ with_texts names.old (map spell (marks_of P))) }
     ensures keeps { Keeps names.old names.new }
 {
     // shows the proof that the phases are few

@@ -21,7 +21,8 @@ fn push_accs<L: Local>(
 ) -> Result<(), NoMemory>
     requires phase { phase < (L.rule local.now).phases }
     requires reads { reads < (L.rule local.now).degree }
-    ensures { OnOk result (out.new.items ≡ out.old.items ++ by_acc (L.rule local.now) phase current previous reads) }
+    ensures { let R = L.rule local.now in
+        OnOk result (out.new.items ≡ out.old.items ++ by_acc R phase current previous reads) }
 {
     for acc in 0..local.accs(phase, reads) {
         let code = Code {
@@ -45,7 +46,8 @@ fn push_reads<L: Local>(
     previous: u32,
 ) -> Result<(), NoMemory>
     requires { phase < (L.rule local.now).phases }
-    ensures { OnOk result (out.new.items ≡ out.old.items ++ by_reads (L.rule local.now) phase current previous) }
+    ensures { let R = L.rule local.now in
+        OnOk result (out.new.items ≡ out.old.items ++ by_reads R phase current previous) }
 {
     for reads in 0..local.degree() {
         push_accs(out, local, phase, current, previous, reads)?;
@@ -61,7 +63,8 @@ pub fn push_previous<L: Local>(
     current: u32,
 ) -> Result<(), NoMemory>
     requires { phase < (L.rule local.now).phases }
-    ensures { OnOk result (out.new.items ≡ out.old.items ++ by_previous (L.rule local.now) phase current) }
+    ensures { let R = L.rule local.now in
+        OnOk result (out.new.items ≡ out.old.items ++ by_previous R phase current) }
 {
     for previous in 0..local.states(phase_before(local, phase)) {
         push_reads(out, local, phase, current, previous)?;

@@ -17,16 +17,20 @@ onto kept None = None
 onto kept (Some ks) = Some (kept ++ ks)
 
 -- the numbers that were read, behind those that are kept
-abbrev pub kept_with : List ℕ → Result (List ℕ × List lines.Line) SourceError → Result (List ℕ × List lines.Line) SourceError
+abbrev pub kept_with : List ℕ → Result (List ℕ × List lines.Line) SourceError →
+    Result (List ℕ × List lines.Line) SourceError
 kept_with kept (Err f) = Err f
 kept_with kept (Ok r) = Ok (kept ++ r.0, r.1)
 
 -- the same of a row, as f leaves it, and of many
-abbrev pub each_kept_with : (List ℕ → List ℕ) → List ℕ → Result (List ℕ × List lines.Line) SourceError → Result (List ℕ × List lines.Line) SourceError
+abbrev pub each_kept_with : (List ℕ → List ℕ) → List ℕ →
+    Result (List ℕ × List lines.Line) SourceError → Result (List ℕ × List lines.Line) SourceError
 each_kept_with f kept (Err e) = Err e
 each_kept_with f kept (Ok r) = Ok (kept ++ f r.0, r.1)
 
-abbrev pub all_kept_with : (List ℕ → List ℕ) → List ℕ → Result (List (List ℕ) × List lines.Line) SourceError → Result (List ℕ × List lines.Line) SourceError
+abbrev pub all_kept_with : (List ℕ → List ℕ) → List ℕ →
+    Result (List (List ℕ) × List lines.Line) SourceError →
+    Result (List ℕ × List lines.Line) SourceError
 all_kept_with f kept (Err e) = Err e
 all_kept_with f kept (Ok r) = Ok (kept ++ flat_map f r.0, r.1)
 

@@ -61,7 +61,8 @@ abbrev pub degree_line : List (List ℕ) → Option ℕ
 degree_line words = that_passes is_degree (number_line (codes "degree") words)
 
 abbrev pub states_line : List (List ℕ) → Option ℕ
-states_line words = that_passes (λ k. nat_le 1 k && nat_le k 256) (number_line (codes "states") words)
+states_line words =
+    that_passes (λ k. nat_le 1 k && nat_le k 256) (number_line (codes "states") words)
 
 -- a state below n
 abbrev pub edge_line : ℕ → List (List ℕ) → Option ℕ
@@ -79,7 +80,9 @@ if_own own (Some k) row = if k == own then row else None
 abbrev pub next_line : ℕ → ℕ → ℕ → List (List ℕ) → Option (List ℕ)
 next_line sums n own [] = None
 next_line sums n own (word ∷ []) = None
-next_line sums n own (word ∷ state ∷ words) = if bytes_eq word (codes "next") then if_own own (decimal_of state) (numbers sums n words) else None
+next_line sums n own (word ∷ state ∷ words) =
+    if bytes_eq word (codes "next") then if_own own (decimal_of state) (numbers sums n words)
+    else None
 
 abbrev pub side : List ℕ → Option ℕ
 side word = decimal_below (2 ^ 32) word
@@ -91,7 +94,8 @@ sides (Some w) (Some h) = Some (w, h)
 
 -- the width and the height
 abbrev pub size_line : List (List ℕ) → Option (ℕ × ℕ)
-size_line (word ∷ w ∷ h ∷ []) = if bytes_eq word (codes "size") then sides (side w) (side h) else None
+size_line (word ∷ w ∷ h ∷ []) =
+    if bytes_eq word (codes "size") then sides (side w) (side h) else None
 size_line [] = None
 size_line (word ∷ []) = None
 size_line (word ∷ w ∷ []) = None

@@ -18,22 +18,28 @@ read_line number ls None = Err (BadTable number)
 read_line number ls (Some a) = Ok (a, ls)
 
 -- the next line, which must be the expected one
-abbrev pub read : {A : Type 0} → (List (List ℕ) → Option A) → List Line → Result (A × List Line) SourceError
+abbrev pub read : {A : Type 0} → (List (List ℕ) → Option A) → List Line →
+    Result (A × List Line) SourceError
 read expected [] = Err Unclosed
 read expected (l ∷ ls) = read_line l.number ls (expected l.words)
 
 -- goes on behind what was read
-abbrev pub and_then : {A B : Type 0} → Result (A × List Line) SourceError → (A → List Line → Result B SourceError) → Result B SourceError
+abbrev pub and_then : {A B : Type 0} → Result (A × List Line) SourceError →
+    (A → List Line → Result B SourceError) → Result B SourceError
 and_then (Err f) more = Err f
 and_then (Ok r) more = more r.0 r.1
 
 -- a line for each that is expected, in this order
-abbrev pub read_all : {A : Type 0} → List (List (List ℕ) → Option A) → List Line → Result (List A × List Line) SourceError
+abbrev pub read_all : {A : Type 0} → List (List (List ℕ) → Option A) → List Line →
+    Result (List A × List Line) SourceError
 read_all [] ls = Ok ([], ls)
-read_all (expected ∷ more) ls = and_then (read expected ls) (λ a rest. and_then (read_all more rest) (λ further behind. Ok (a ∷ further, behind)))
+read_all (expected ∷ more) ls =
+    and_then (read expected ls) (λ a rest. and_then (read_all more rest)
+    (λ further behind. Ok (a ∷ further, behind)))
 
 -- all rows that were read, as f puts them together
-abbrev pub gathered : (List (List ℕ) → List ℕ) → Result (List (List ℕ) × List Line) SourceError → Result (List ℕ × List Line) SourceError
+abbrev pub gathered : (List (List ℕ) → List ℕ) → Result (List (List ℕ) × List Line) SourceError →
+    Result (List ℕ × List Line) SourceError
 gathered f (Err e) = Err e
 gathered f (Ok r) = Ok (f r.0, r.1)
 
@@ -47,10 +53,13 @@ pub record Head : Type 0 where
 
 -- the number of rules, for which the next states don't matter
 abbrev pub rules_of : ℕ → List ℕ → ℕ
-rules_of degree weights = rule_count (table_rule (record { degree = degree; weights = weights; next = [] }))
+rules_of degree weights =
+    rule_count (table_rule (record { degree = degree; weights = weights; next = [] }))
 
 abbrev pub if_few_rules : Head → List Line → Result (Head × List Line) SourceError
-if_few_rules h ls = if nat_lt 1048576 (rules_of h.degree h.weights) then Err (TooManyRules (rules_of h.degree h.weights)) else Ok (h, ls)
+if_few_rules h ls =
+    if nat_lt 1048576 (rules_of h.degree h.weights) then Err
+    (TooManyRules (rules_of h.degree h.weights)) else Ok (h, ls)
 
 abbrev pub read_head : List Line → Result (Head × List Line) SourceError
 read_head ls0 =
@@ -99,11 +108,14 @@ margin_rows margin edge width = replicate (margin * (width + 2 * margin)) edge
 
 -- the rows with the margin round them
 abbrev pub framed : ℕ → ℕ → ℕ → List (List ℕ) → List ℕ
-framed margin edge width rows = margin_rows margin edge width ++ (flat_map (widened margin edge) rows ++ margin_rows margin edge width)
+framed margin edge width rows =
+    margin_rows margin edge width ++ (flat_map (widened margin edge) rows
+    ++ margin_rows margin edge width)
 
 -- the cells of the box and of its margin, in row-major order
 abbrev pub read_cells : ℕ → ℕ → ℕ → ℕ × ℕ → List Line → Result (List ℕ × List Line) SourceError
-read_cells margin edge n size ls = gathered (framed margin edge size.0) (read_all (row_lines n size) ls)
+read_cells margin edge n size ls =
+    gathered (framed margin edge size.0) (read_all (row_lines n size) ls)
 
 -- ---- the automaton
 
@@ -112,7 +124,8 @@ kind_of degree = if degree == 6 then Hex else Square
 
 abbrev pub automaton_of : ℕ → Head → List ℕ → ℕ × ℕ → List ℕ → Universe
 automaton_of margin h next size cells =
-    universe (plain (kind_of h.degree) (size.0 + 2 * margin) (size.1 + 2 * margin)) (table_rule (record { degree = h.degree; weights = h.weights; next = next })) h.edge cells
+    universe (plain (kind_of h.degree) (size.0 + 2 * margin) (size.1 + 2 * margin))
+    (table_rule (record { degree = h.degree; weights = h.weights; next = next })) h.edge cells
 
 -- what these lines spell, with a margin so wide; no line behind the end is looked at
 abbrev pub read_table : ℕ → List Line → Result Universe SourceError

@@ -16,4 +16,6 @@ pub record Kept : Type 0 where
 -- the first of these lines that is not passed over, where n lines stand before them
 abbrev pub first_kept : (List ℕ → Bool) → ℕ → List (List ℕ) → Option Kept
 first_kept skipped n [] = None
-first_kept skipped n (t ∷ ts) = if skipped (trimmed t) then first_kept skipped (n + 1) ts else Some (record { line = trimmed t; number = n + 1; behind = ts })
+first_kept skipped n (t ∷ ts) =
+    if skipped (trimmed t) then first_kept skipped (n + 1) ts
+    else Some (record { line = trimmed t; number = n + 1; behind = ts })

@@ -16,7 +16,8 @@ nets_of N = N.inputs + length N.gates
 abbrev pub gate_value : (ℕ → Bool) → Gate → Bool
 gate_value value (Constant v) = v
 gate_value value (One zero one input) = if value input then one else zero
-gate_value value (Two t00 t01 t10 t11 first second) = if value first then (if value second then t11 else t10) else (if value second then t01 else t00)
+gate_value value (Two t00 t01 t10 t11 first second) =
+    if value first then (if value second then t11 else t10) else (if value second then t01 else t00)
 
 abbrev pub value_in : List Bool → ℕ → Bool
 value_in values net = slice_index_or values net false

@@ -80,7 +80,8 @@ groups =
     for_each_bit WireReads ∷
     for_each_port (λ port. for_each_bit (PortReads port)) ∷
     for_each_table (λ p q. for_each_bit (OneReads p q)) ∷
-    for_each_mark AcrossReads ∷ for_each_mark DownReads ∷ for_each_mark PReads ∷ for_each_mark QReads ∷
+    for_each_mark AcrossReads ∷ for_each_mark DownReads ∷ for_each_mark PReads
+    ∷ for_each_mark QReads ∷
     for_each_table (λ p q. for_each_table (first_reads p q)) ∷
     for_each_table (λ p q. for_each_bit (ReadsLastA p q)) ∷
     for_each_table (λ p q. for_each_bit (ReadsLastB p q)) ∷ []

@@ -1,4 +1,5 @@
--- The rules as docs/MODEL.md lists them: the name of the first site, which it keeps, and the name of the second site before and after.
+-- The rules as docs/MODEL.md lists them: the name of the first site, which it keeps, and the name
+-- of the second site before and after.
 use Rattle.std.specs.Prelude.{◌≡◌, ℕ, List, [], ◌∷◌, map, codes}
 use Rattle.surf_tiles.specs.declared.reaction.Reaction.{Reaction}
 use Rattle.surf_tiles.specs.Reactions.{giver, reader, outcome, reactions}

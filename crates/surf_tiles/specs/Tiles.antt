@@ -25,7 +25,8 @@ spot_of _ _ = Corner
 
 -- a wire tile with these ports
 abbrev pub wires : (north east south west : Bool) → Tile
-wires north east south west = Wires (record { north = north; east = east; south = south; west = west })
+wires north east south west =
+    Wires (record { north = north; east = east; south = south; west = west })
 
 -- whether a wire tile has a port on a side
 abbrev pub port : Tile → Side → Bool

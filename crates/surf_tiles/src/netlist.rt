@@ -40,9 +40,15 @@ impl Model for Netlist {
 
     ghost Value = { NetlistOf };
 
-    ghost view = { λ n. record { inputs = n.inputs; gates = n.gates.items; outputs = n.outputs.items } };
+    ghost view = { λ n.
+        record { inputs = n.inputs; gates = n.gates.items; outputs = n.outputs.items } };
 
-    ghost invariant = { λ n. IsNetlist (record { inputs = n.inputs; gates = n.gates.items; outputs = n.outputs.items }) };
+    ghost invariant = { λ n.
+        IsNetlist (record {
+          inputs = n.inputs;
+          gates = n.gates.items;
+          outputs = n.outputs.items;
+        }) };
 }
 
 impl Netlist {

@@ -52,4 +52,4 @@ module _ (C : Counts) (g : Grid) (edge : ℕ) (cells : List ℕ) (dead : edge �
   eight_steps = λ k s inside. steps_by_eight C g cells kept k s inside
 
   pub starts_within : StartsWithin (universe g (moore_rule C) edge cells)
-  starts_within = λ i f below phase. starts_in_both C g cells kept i f below phase
+  starts_within = λ i f below phase. starts_in_both C g edge cells is i f below phase

@@ -1,5 +1,5 @@
 // The command `automaton`.
-ghost use Rattle.std.specs.Prelude.{◌≡◌, ◌≤◌, ◌*◌, ℕ, List, Err, IfErr, IfOk, IfSome, None, Ok, Some, false, length, true};
+ghost use Rattle.std.specs.Prelude.{◌≡◌, ◌≤◌, ℕ, List, Err, IfErr, IfOk, IfSome, None, Ok, Some, false, length, true};
 ghost use Rattle.surf_auto.specs.Lines.{is_table};
 ghost use Rattle.surf_auto.specs.Locals.{rule_count};
 ghost use Rattle.surf_auto.specs.Sync.{box_of, universe};
@@ -10,7 +10,7 @@ ghost use Rattle.surf_manifest.specs.Grammar.{manifest_of};
 ghost use Rattle.surf_manifest_print.specs.Prints.{print_of};
 ghost use Rattle.surf_rle.specs.Sources.{Eight, Plain, ShowsSteps, Source, universe_of};
 ghost use Rattle.surf_top.specs.Answers.{IsQuiet};
-ghost use Rattle.surf_top.specs.Automata.{colony_manifest, in_phases, printed_colony};
+ghost use Rattle.surf_top.specs.Automata.{in_phases, printed_colony};
 ghost use Rattle.surf_top.specs.Commands.{EndsJob};
 ghost use Rattle.surf_top.specs.Generations.{source_of};
 ghost use Rattle.surf_top.specs.Jobs as jobs;
@@ -46,11 +46,6 @@ fn compile_ending<L: Local>(
         a.cells.items) }
     requires some { 1 ≤ last }
     requires limit { last ≤ 1000000 }
-    ensures many { let a = automaton.now in
-        let U = universe (box_of a.kind a.wrap a.width a.height) (L.rule a.local) a.edge
-        a.cells.items in
-        IfErr result (λ e. (e ≡ sources.NoMemory → ⊥)
-        → printed_colony (Some last) (Ok (Plain U)) ≡ Err (refusals.Source e)) }
     ensures text { let a = automaton.now in
         let U = universe (box_of a.kind a.wrap a.width a.height) (L.rule a.local) a.edge
         a.cells.items in
@@ -59,6 +54,11 @@ fn compile_ending<L: Local>(
         let U = universe (box_of a.kind a.wrap a.width a.height) (L.rule a.local) a.edge
         a.cells.items in
         IfOk result (λ m. KeepsInStep U (in_phases U (Some last)) m.text.system) }
+    ensures refused { let a = automaton.now in
+        let U = universe (box_of a.kind a.wrap a.width a.height) (L.rule a.local) a.edge
+        a.cells.items in
+        IfErr result (λ e. (e ≡ sources.NoMemory → ⊥)
+        → printed_colony (Some last) (Ok (Plain U)) ≡ Err (refusals.Source e)) }
 {
     let local = &automaton.local;
     let count = rule_count_last(local, local.degree(), last);
@@ -79,11 +79,6 @@ fn compile<L: Local>(
         a.cells.items) }
     requires few { rule_count (L.rule automaton.now.local) ≤ 1048576 }
     requires limits { IfSome last (λ n. (1 ≤ n) × (n ≤ 1000000)) }
-    ensures many { let a = automaton.now in
-        let U = universe (box_of a.kind a.wrap a.width a.height) (L.rule a.local) a.edge
-        a.cells.items in
-        IfErr result (λ e. (e ≡ sources.NoMemory → ⊥)
-        → printed_colony last (Ok (Plain U)) ≡ Err (refusals.Source e)) }
     ensures text { let a = automaton.now in
         let U = universe (box_of a.kind a.wrap a.width a.height) (L.rule a.local) a.edge
         a.cells.items in
@@ -92,6 +87,11 @@ fn compile<L: Local>(
         let U = universe (box_of a.kind a.wrap a.width a.height) (L.rule a.local) a.edge
         a.cells.items in
         IfOk result (λ m. KeepsInStep U (in_phases U last) m.text.system) }
+    ensures refused { let a = automaton.now in
+        let U = universe (box_of a.kind a.wrap a.width a.height) (L.rule a.local) a.edge
+        a.cells.items in
+        IfErr result (λ e. (e ≡ sources.NoMemory → ⊥)
+        → printed_colony last (Ok (Plain U)) ≡ Err (refusals.Source e)) }
 {
     match last {
         Some(last) => compile_ending(alloc, automaton, last),

@@ -1,3 +1,4 @@
+// Why an input is refused, and how a call of the program ended.
 ghost use Rattle.std.specs.Prelude.{◌≡◌};
 ghost use Rattle.surf_top.specs.Commands.{answer_to, answer_to_bits, answer_to_blif, answer_to_legend, answer_to_set, answer_to_source, answer_to_trace, status_of};
 

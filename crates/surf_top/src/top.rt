@@ -1,3 +1,4 @@
+// The program as one call.
 ghost use Rattle.std.specs.Prelude.{◌≡◌, ◌≤◌, length, map, string_bytes};
 ghost use Rattle.surf_top.specs.Answers.{HasCauses, IsComplete, IsQuiet, PrintsCircuit, PrintsColony, PrintsRun, ends};
 ghost use Rattle.surf_top.specs.Commands.{EndsJob};

@@ -1,4 +1,5 @@
--- Systems of rules on the sites of a grid, their events and their runs. N is any kind of name, and a configuration is the row-major list of the names.
+-- Systems of rules on the sites of a grid, their events and their runs. N is any kind of name, and
+-- a configuration is the row-major list of the names.
 use Rattle.std.specs.Prelude.{◌≡◌, ℕ, ◌<◌, List, [], ◌∷◌, Option, Some, None, slice_get, slice_set}
 use Rattle.surf_lattice.specs.declared.site.Site.{Site}
 use Rattle.surf_lattice.specs.Grids.{Grid, IsInside, Adjacent, place}
@@ -35,7 +36,8 @@ FitsSecond g c p (Some b) None = ⊥
 
 abbrev pub Fits : {N : Type 0} → Grid → List N → Event → Option (Rule N) → Type 0
 Fits g c e None = ⊥
-Fits g c e (Some r) = (0 < r.rate) × Holds g c e.first r.left × FitsSecond g c e.first r.right e.second
+Fits g c e (Some r) =
+    (0 < r.rate) × Holds g c e.first r.left × FitsSecond g c e.first r.right e.second
 
 -- the event may happen in the configuration
 abbrev pub Enabled : {N : Type 0} → Surface N → List N → Event → Type 0
@@ -48,7 +50,8 @@ with_second g c (Some b) (Some q) = slice_set c (place g q) b
 
 abbrev pub with_rule : {N : Type 0} → Grid → List N → Event → Option (Rule N) → List N
 with_rule g c e None = c
-with_rule g c e (Some r) = with_second g (slice_set c (place g e.first) r.left_after) r.right_after e.second
+with_rule g c e (Some r) =
+    with_second g (slice_set c (place g e.first) r.left_after) r.right_after e.second
 
 -- the configuration after the event
 abbrev pub after : {N : Type 0} → Surface N → List N → Event → List N

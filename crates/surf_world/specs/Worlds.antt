@@ -6,7 +6,14 @@ use Rattle.surf_world.specs.Systems as systems
 
 -- a rule as the definitions see it
 abbrev pub rule_of : Rule → systems.Rule ℕ
-rule_of r = record { rate = r.rate; left = r.left; right = r.right; left_after = r.left_after; right_after = r.right_after }
+rule_of r =
+    record {
+      rate = r.rate;
+      left = r.left;
+      right = r.right;
+      left_after = r.left_after;
+      right_after = r.right_after;
+    }
 
 pub record Placed : Type 0 where
   pub surface : Surface ℕ

@@ -1,3 +1,4 @@
+// The events that may happen, by their first site and rate.
 ghost use Rattle.std.specs.Prelude.{◌≡◌, ◌↔◌, ◌≤◌, ◌<◌, ◌*◌, IsTrue, Some, None, Ok, Err, [], All, length, map, sum_by, nat_eq};
 ghost use Rattle.surf_lattice.specs.Grids.{IsInside, Adjacent, degree, neighbour};
 ghost use Rattle.surf_world.specs.Systems.{Stuck};

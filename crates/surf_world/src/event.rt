@@ -1,3 +1,4 @@
+// Events: one use of a rule.
 use surf_lattice::Site;
 
 /// One use of a rule: its number, and the one or two sites that it is used at, in order.

@@ -1,3 +1,4 @@
+// The laws of choices and of renaming.
 ghost use Rattle.std.specs.Prelude.{◌≡◌, ◌≢◌, ℕ, ◌+◌, ◌<◌, ◌↔◌, List, [], length, map, take, sum, sum_by, nat_eq, bytes_eq, AllPairs, Contains, IsSome, Some, slice_get};
 ghost use Rattle.surf_lattice.specs.declared.site.Site.{Site};
 ghost use Rattle.surf_lattice.specs.Grids.{IsGrid, sites};

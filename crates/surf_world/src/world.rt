@@ -1,3 +1,4 @@
+// Worlds: a grid, its rules and what each site holds.
 ghost use Rattle.std.specs.Prelude.{◌≡◌, ◌↔◌, ◌≤◌, ◌<◌, ◌*◌, IsTrue, IfOk, Some, length, map, slice_get};
 ghost use Rattle.surf_lattice.specs.Grids.{IsInside, place, site_at, sites};
 ghost use Rattle.surf_world.specs.Systems.{Holds, FitsSecond, Enabled, after};
@@ -25,9 +26,15 @@ impl<L: Lattice> Model for World<L> {
 
     ghost Value = { Placed };
 
-    ghost view = { λ w. record { surface = record { grid = L.grid w.grid; rules = map rule_of w.book }; names = w.names.items } };
+    ghost view = { λ w.
+        record {
+          surface = record { grid = L.grid w.grid; rules = map rule_of w.book };
+          names = w.names.items;
+        } };
 
-    ghost invariant = { λ w. (length w.names.items ≡ (L.grid w.grid).width * (L.grid w.grid).height) × (length w.names.items ≤ 33554432) × (length w.book ≤ 1048576) };
+    ghost invariant = { λ w.
+        (length w.names.items ≡ (L.grid w.grid).width * (L.grid w.grid).height)
+        × (length w.names.items ≤ 33554432) × (length w.book ≤ 1048576) };
 }
 
 impl<L: Lattice> World<L> {

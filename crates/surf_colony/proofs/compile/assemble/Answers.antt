@@ -1,10 +1,7 @@
-use Rattle.std.proofs.Common.{◌≡◌, ◌*◌, ◌≤◌, List, length, ap, sym, subst, ◌∙◌}
+use Rattle.std.proofs.Common.{◌≡◌, ◌*◌, ◌≤◌, length, ap, sym, subst, ◌∙◌}
 use Rattle.surf_auto.specs.Sync.{Universe, box_of, universe}
 use Rattle.surf_lattice.specs.AnyGrid.{grid_of}
-use Rattle.surf_lattice.specs.Grids.{sites}
 use Rattle.surf_manifest.proofs.Growth.{rules_below}
-use Rattle.surf_sync.specs.Spelling.{spell}
-use Rattle.surf_colony.specs.Colonies.{first_mark, framed}
 use Rattle.surf_colony.proofs.Compiled.{framed_few, longer_kept, placed, sites_placed, system_is}
 use Rattle.surf_colony.proofs.compile.assemble.Goals as goal
 

@@ -1,62 +1,28 @@
-use Rattle.std.proofs.Common.{◌≡◌, ◌*◌, ◌<◌, ◌≤◌, List, [], Option, Some, None, ℕ, map, arith, ap, sym, subst, ◌∙◌}
-use Rattle.std.proofs.lemmas.Result.{IfOk-weaker}
-use Rattle.surf_auto.specs.Locals.{rule_count_in}
-use Rattle.surf_auto.specs.Sync.{Universe, IsUniverse, box_of, universe}
-use Rattle.surf_rules.specs.declared.rule.Rule.{Rule}
+use Rattle.std.proofs.Common.{◌<◌, None, map, arith, ap, ◌∙◌}
+use Rattle.surf_auto.specs.Sync.{Universe, box_of, universe}
 use Rattle.surf_sync.specs.Codes.{protocol}
-use Rattle.surf_sync.specs.Listing.{Say, marks_of, with_texts}
-use Rattle.surf_sync.specs.Rules.{sync_rules, turns_by}
+use Rattle.surf_sync.specs.Listing.{marks_of, with_texts}
 use Rattle.surf_sync.specs.Spelling.{spell}
-use Rattle.surf_colony.specs.Colonies.{StartsWithin, printed}
-use Rattle.surf_colony.specs.InStep.{IsLast, KeepsInStep}
-use Rattle.surf_colony.proofs.Compiled.{Compiles, compiles, is_last, last_turns}
-use Rattle.surf_colony.proofs.Printed.{printed_synchrony}
+use Rattle.surf_colony.proofs.Compiled.{are_parts, colony_in, in_step_in}
 use Rattle.surf_colony.proofs.compile.compile_automaton.Goals as goal
 
-facts : (U : Universe) → IsUniverse U → StartsWithin U → rule_count_in 3 U.rule ≤ 1048576 → (old new : List (List ℕ)) (rules : List Rule) → old ≡ [] → new ≡ with_texts old (map spell (marks_of (protocol U.rule 0 None))) → Say new rules (sync_rules (protocol U.rule U.edge None)) → Compiles new rules
-facts U is within small old new rules none named say =
+pub assemble-requires : goal.assemble-requires
+assemble-requires g c =
+    let a = c.args.automaton.now in
+    let U : Universe = universe (box_of a.kind a.wrap a.width a.height) (g.L.Local.rule a.local) a.edge a.cells.items in
     let some : 0 < 3 = omega arith in
-    compiles U None is within tt some small new rules (named ∙ ap (λ o. with_texts o (map spell (marks_of (protocol U.rule 0 None)))) none) say
-
-pub assemble-requires-clause-texts : goal.assemble-requires-clause-texts
-assemble-requires-clause-texts g c =
-    let a = c.args.automaton.now in
-    let U : Universe = universe (box_of a.kind a.wrap a.width a.height) (g.L.Local.rule a.local) a.edge a.cells.items in
-    (facts U a.stands c.requires.starts c.requires.few c.new-names.result c.sync_rules.new.names c.in_ok-rules.rules.items c.new-names.ensures c.in_ok-rules.ensures.names c.in_ok-rules.ensures.rules).texts
-
-pub assemble-requires-clause-room : goal.assemble-requires-clause-room
-assemble-requires-clause-room g c =
-    let a = c.args.automaton.now in
-    let U : Universe = universe (box_of a.kind a.wrap a.width a.height) (g.L.Local.rule a.local) a.edge a.cells.items in
-    (facts U a.stands c.requires.starts c.requires.few c.new-names.result c.sync_rules.new.names c.in_ok-rules.rules.items c.new-names.ensures c.in_ok-rules.ensures.names c.in_ok-rules.ensures.rules).room
-
-pub assemble-requires-clause-below : goal.assemble-requires-clause-below
-assemble-requires-clause-below g c =
-    let a = c.args.automaton.now in
-    let U : Universe = universe (box_of a.kind a.wrap a.width a.height) (g.L.Local.rule a.local) a.edge a.cells.items in
-    (facts U a.stands c.requires.starts c.requires.few c.new-names.result c.sync_rules.new.names c.in_ok-rules.rules.items c.new-names.ensures c.in_ok-rules.ensures.names c.in_ok-rules.ensures.rules).below
-
-pub assemble-requires-clause-rates : goal.assemble-requires-clause-rates
-assemble-requires-clause-rates g c =
-    let a = c.args.automaton.now in
-    let U : Universe = universe (box_of a.kind a.wrap a.width a.height) (g.L.Local.rule a.local) a.edge a.cells.items in
-    (facts U a.stands c.requires.starts c.requires.few c.new-names.result c.sync_rules.new.names c.in_ok-rules.rules.items c.new-names.ensures c.in_ok-rules.ensures.names c.in_ok-rules.ensures.rules).rates
-
-pub assemble-requires-clause-few : goal.assemble-requires-clause-few
-assemble-requires-clause-few g c =
-    let a = c.args.automaton.now in
-    let U : Universe = universe (box_of a.kind a.wrap a.width a.height) (g.L.Local.rule a.local) a.edge a.cells.items in
-    (facts U a.stands c.requires.starts c.requires.few c.new-names.result c.sync_rules.new.names c.in_ok-rules.rules.items c.new-names.ensures c.in_ok-rules.ensures.names c.in_ok-rules.ensures.rules).few
+    are_parts U None a.stands c.requires.starts tt some c.requires.few c.sync_rules.new.names c.in_ok-rules.rules.items
+    (c.in_ok-rules.ensures.names ∙ ap (λ o. with_texts o (map spell (marks_of (protocol U.rule 0 None)))) c.new-names.ensures) c.in_ok-rules.ensures.rules
 
 pub returns-clause-colony : goal.returns-clause-colony
 returns-clause-colony g c =
     let a = c.args.automaton.now in
     let U : Universe = universe (box_of a.kind a.wrap a.width a.height) (g.L.Local.rule a.local) a.edge a.cells.items in
-    IfOk-weaker c.assemble.result (λ m. (last : Option ℕ) → Say c.sync_rules.new.names c.in_ok-rules.rules.items (sync_rules (protocol U.rule U.edge last)) → m.text.system ≡ printed U last) (λ m. m.text.system ≡ printed U None) (λ m h. h None c.in_ok-rules.ensures.rules) c.assemble.ensures.system
+    colony_in c.assemble.result (λ m. m.text.system) U None c.sync_rules.new.names c.in_ok-rules.rules.items c.assemble.ensures.system c.in_ok-rules.ensures.rules
 
 pub returns-clause-in_step : goal.returns-clause-in_step
 returns-clause-in_step g c =
     let a = c.args.automaton.now in
     let U : Universe = universe (box_of a.kind a.wrap a.width a.height) (g.L.Local.rule a.local) a.edge a.cells.items in
-    let steps : KeepsInStep U None (printed U None) = printed_synchrony U None a.stands c.requires.starts (tt) in
-    IfOk-weaker c.assemble.result (λ m. (last : Option ℕ) → Say c.sync_rules.new.names c.in_ok-rules.rules.items (sync_rules (protocol U.rule U.edge last)) → m.text.system ≡ printed U last) (λ m. KeepsInStep U None m.text.system) (λ m h. subst (KeepsInStep U None) (sym (h None c.in_ok-rules.ensures.rules)) steps) c.assemble.ensures.system
+    in_step_in c.assemble.result (λ m. m.text.system) U None a.stands c.requires.starts tt
+    (colony_in c.assemble.result (λ m. m.text.system) U None c.sync_rules.new.names c.in_ok-rules.rules.items c.assemble.ensures.system c.in_ok-rules.ensures.rules)
