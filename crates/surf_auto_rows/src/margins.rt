@@ -89,7 +89,10 @@ fn eight_neighbours_have_a_margin(rt: HostRuntime) -> Result<(), Fail> {
         (7, 0, 1),
         (8, 1, 0),
     ] {
-        assert_eq!(rt; (other.local.next(0, live), other.local.next(1, live)), (born, stays));
+        assert_eq!(rt;
+            (other.local.next(0, live), other.local.next(1, live)),
+            (born, stays)
+        );
     }
     Ok(())
 }

@@ -1,4 +1,4 @@
--- What the text of an automaton spells, what its cells show, and the universe on which they keep in step.
+-- What the text of an automaton spells: what its cells show, and its universe on a surface.
 use Rattle.std.specs.Prelude.{◌≡◌, ℕ, ◌*◌, List}
 use Rattle.surf_lattice.specs.declared.site.Site.{Site}
 use Rattle.surf_lattice.specs.Grids.{Grid, IsInside}
@@ -9,7 +9,8 @@ use Rattle.surf_life.specs.Moore.{moore_sync}
 use Rattle.surf_rle.specs.declared.pattern.Pattern.{Pattern}
 use Rattle.surf_rle.specs.declared.pattern.Pattern.TheVariants as patterns
 
--- a universe whose cells see the neighbours of their grid; or births and survivals by counts of eight neighbours, and cells on a square grid about which all is dead
+-- a universe whose cells see the neighbours of their grid; or births and survivals by counts of
+-- eight neighbours, with cells on a square grid about which all is dead
 pub data Source : Type 0 where
   Plain : Universe → Source
   Eight : Counts → Grid → List ℕ → Source
@@ -33,7 +34,8 @@ ShowsSteps S =
 -- the source that a pattern is
 abbrev pub source_by : Pattern → Source
 source_by (patterns.Count a) =
-    Plain (universe (box_of a.kind a.wrap a.width a.height) (count_rule a.local) a.edge a.cells.items)
+    Plain (universe (box_of a.kind a.wrap a.width a.height) (count_rule a.local) a.edge
+    a.cells.items)
 source_by (patterns.Moore a) =
     Eight a.local (box_of a.kind a.wrap a.width a.height) a.cells.items
 

@@ -152,8 +152,9 @@ fn read_pattern(
     Ok(pattern_on(sheet, &spelled.rule, cells))
 }
 
-/// The automaton of a pattern in RLE, of at most 2,147,483,648 bytes, or the text's first fault. The
-/// universe is the pattern's box with a margin of dead cells on each side, or the torus of its rule.
+/// The automaton of a pattern in RLE, of at most 2,147,483,648 bytes, or the text's first fault.
+/// Its universe is the pattern's box with a margin of dead cells on each side, or the torus of its
+/// rule.
 ///
 /// One pass over the bytes. A count takes no time in proportion to itself.
 pub fn read_rle(alloc: Global, bytes: &[u8], margin: u32) -> Result<Pattern, SourceError>

@@ -1,8 +1,9 @@
 -- The surface of an automaton as text, and what it tells of the text that was read.
-use Rattle.std.proofs.Common.{ℕ, ◌≡◌, List, Option, Some, None, Result, Ok, Err, IfOk, MatchResult, is_ok, refl, sym, ◌∙◌, ap, subst}
+use Rattle.std.proofs.Common.{ℕ, ◌≡◌, ◌≤◌, arith, List, Option, Some, None, Result, Ok, Err, IfOk, MatchResult, is_ok, refl, sym, ◌∙◌, ap, subst}
 use Rattle.std.proofs.lemmas.Bool.{false≢true}
 use Rattle.surf_lattice.specs.Grids.{Grid}
 use Rattle.surf_auto.specs.Counts.{Counts}
+use Rattle.surf_auto.specs.Locals.{rule_count}
 use Rattle.surf_auto.specs.Sync.{IsUniverse, Universe, universe}
 use Rattle.surf_colony.specs.Colonies.{StartsWithin}
 use Rattle.surf_colony.specs.InStep.{KeepsInStep}
@@ -53,3 +54,7 @@ module _ (C : Counts) (g : Grid) (edge : ℕ) (cells : List ℕ) (dead : edge �
 
   pub starts_within : StartsWithin (universe g (moore_rule C) edge cells)
   starts_within = λ i f below phase. starts_in_both C g edge cells is i f below phase
+
+-- they have few enough rules
+pub few_rules : (C : Counts) → rule_count (moore_rule C) ≤ 1048576
+few_rules C = let count : rule_count (moore_rule C) ≡ 555840 = refl in omega (arith, count)

@@ -39,14 +39,14 @@ printed_colony None (Ok S) = Ok (colony_text (universe_of S) None)
 printed_colony (Some last) (Ok S) =
     unless_many (rule_count_in last (universe_of S).rule) (colony_text (universe_of S) (Some last))
 
--- The grammar reads in the text a manifest, in every run of which the cells of what the input spells
--- keep in step: a generation is a phase there, and after all phases of k steps each cell shows what
--- the source shows after k steps.
+-- The grammar reads in the text a manifest, in every run of which the cells of what the input
+-- spells keep in step: a generation is a phase there, and after all phases of k steps each cell
+-- shows what the source shows after k steps.
 pub record HoldsColony (margin : ℕ) (last : Option ℕ) (input text : List ℕ) : Type 0 where
   pub source : sources.Source
   pub spelled : source_of margin input ≡ Ok source
   pub manifest : ManifestText
   pub read : manifest_of text ≡ Ok manifest
   pub in_step :
-    KeepsInStep (universe_of source) (in_phases (universe_of source) last) manifest.system
+      KeepsInStep (universe_of source) (in_phases (universe_of source) last) manifest.system
   pub steps : ShowsSteps source

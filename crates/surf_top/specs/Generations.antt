@@ -17,9 +17,11 @@ abbrev pub as_source : Result Universe SourceError → Result sources.Source Sou
 as_source (Ok U) = Ok (Plain U)
 as_source (Err e) = Err e
 
--- a table where the first line that tells says so, else a pattern in RLE, with a margin on each side
+-- a table where the first line that tells says so, else a pattern in RLE, with a margin on each
+-- side
 abbrev pub source_of : ℕ → List ℕ → Result sources.Source SourceError
-source_of margin input = if is_table input then as_source (table_of margin input) else rle_of margin input
+source_of margin input =
+    if is_table input then as_source (table_of margin input) else rle_of margin input
 
 -- the grid of the cells
 abbrev pub source_grid : sources.Source → Grid
@@ -27,7 +29,8 @@ source_grid S = (universe_of S).grid
 
 -- the states of all cells after so many steps, in rows
 abbrev pub generation_text : ℕ → sources.Source → List ℕ
-generation_text times S = rows_text (source_grid S) (map decimal (map (shown S times) (sites (source_grid S))))
+generation_text times S =
+    rows_text (source_grid S) (map decimal (map (shown S times) (sites (source_grid S))))
 
 abbrev pub printed_generation : ℕ → Result sources.Source SourceError → Result (List ℕ) Refusal
 printed_generation times (Ok S) = Ok (generation_text times S)

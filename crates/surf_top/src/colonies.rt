@@ -25,9 +25,9 @@ use std::alloc::Global;
 use surf_auto::{Automaton, Local, SourceError, is_table};
 use surf_base::{NoMemory, Sink, write_all};
 use surf_colony::{compile_automaton, compile_last};
+use surf_life::MooreLocal;
 use surf_manifest::Manifest;
 use surf_manifest_print::print_manifest;
-use surf_life::MooreLocal;
 use surf_rle::{Pattern, read_rle};
 use surf_sync::rule_count_last;
 use surf_table::read_table;
@@ -174,9 +174,9 @@ fn write_eight<K: Sink>(
 ) -> Status
     requires dead { automaton.edge ≡ 0 }
     requires limits { IfSome last (λ n. (1 ≤ n) × (n ≤ 1000000)) }
-    ensures ends { let a = automaton in
-        (margin : ℕ) (input : List ℕ)
-        → source_of margin input ≡ Ok (Eight a.local (box_of a.kind a.wrap a.width a.height) a.cells.items)
+    ensures ends { let a = automaton in (margin : ℕ) (input : List ℕ)
+        → source_of margin input
+        ≡ Ok (Eight a.local (box_of a.kind a.wrap a.width a.height) a.cells.items)
         → EndsJob (jobs.Automaton margin last) input
         (writes K.written K.faults out.old out.new) result }
     ensures quiet { IsQuiet result → out.new ≡ out.old }

@@ -47,8 +47,8 @@ fn show<L: Local + Drop, K: Sink>(
     times: u32,
     out: &mut K,
 ) -> Status
-    ensures ends { let grid = box_of automaton.kind automaton.wrap automaton.width automaton.height in
-        let U = universe grid (L.rule automaton.local) automaton.edge automaton.cells.items in
+    ensures ends { let a = automaton in let grid = box_of a.kind a.wrap a.width a.height in
+        let U = universe grid (L.rule a.local) a.edge a.cells.items in
         (input : List ℕ) → source_of 0 input ≡ Ok (Plain U)
         → EndsJob (Step times) input (writes K.written K.faults out.old out.new) result }
     ensures quiet { IsQuiet result → out.new ≡ out.old }
@@ -68,8 +68,8 @@ fn show_eight<K: Sink>(
     out: &mut K,
 ) -> Status
     requires dead { automaton.edge ≡ 0 }
-    ensures ends { let grid = box_of automaton.kind automaton.wrap automaton.width automaton.height in
-        (input : List ℕ) → source_of 0 input ≡ Ok (Eight automaton.local grid automaton.cells.items)
+    ensures ends { let a = automaton in let grid = box_of a.kind a.wrap a.width a.height in
+        (input : List ℕ) → source_of 0 input ≡ Ok (Eight a.local grid a.cells.items)
         → EndsJob (Step times) input (writes K.written K.faults out.old out.new) result }
     ensures quiet { IsQuiet result → out.new ≡ out.old }
 {
