@@ -16,6 +16,8 @@ examples: build
 	@echo examples/inverter.blif; crates/surf/out/surf circuit < examples/inverter.blif
 	@echo examples/growth.rle; crates/surf/out/surf step 2 < examples/growth.rle
 	@echo examples/torus.rle; crates/surf/out/surf step 2 < examples/torus.rle
+	@echo examples/gun.rle; crates/surf/out/surf step 30 < examples/gun.rle
+	@echo examples/glider.rle; crates/surf/out/surf step 40 < examples/glider.rle
 	@echo examples/signal.table; crates/surf/out/surf step 3 < examples/signal.table
 	@crates/surf/out/surf automaton 0 3 < examples/signal.table | crates/surf/out/surf run 1 1000 | tail -n 6
 

@@ -10,11 +10,8 @@ pub enum SourceError {
     /// A rule of another form.
     #[error("RuleForm")]
     RuleForm(u64),
-    /// A rule of eight neighbours.
-    #[error("Moore")]
-    Moore(u64),
     /// Sides of a torus that are 0, below those of the header's box, or no multiples of 5 (four
-    /// neighbours) or 7 (six).
+    /// or eight neighbours) or 7 (six).
     #[error("TorusSize")]
     TorusSize(u64),
     /// A side is 0.

@@ -3,19 +3,40 @@ use std::alloc::Global;
 use std::test::Fail;
 use surf_auto::{Automaton, CountLocal, Local, SourceError, TableLocal, is_table};
 use surf_lattice::GridKind;
-use surf_rle::read_rle;
+use surf_life::MooreLocal;
+use surf_rle::{Pattern, read_rle};
 use surf_table::read_table;
 
-/// The automaton of a short pattern.
+// A short pattern.
+fn read(alloc: Global, text: &[u8], margin: u32) -> Result<Pattern, SourceError> {
+    if is_table(text) || text.len() > 1000 || margin > 1000 {
+        return Err(SourceError::BadTable(0));
+    }
+    read_rle(alloc, text, margin)
+}
+
+/// The automaton of a short pattern of four or six neighbours.
 pub fn pattern(
     alloc: Global,
     text: &[u8],
     margin: u32,
 ) -> Result<Automaton<CountLocal>, SourceError> {
-    if is_table(text) || text.len() > 1000 || margin > 1000 {
-        return Err(SourceError::BadTable(0));
+    match read(alloc, text, margin)? {
+        Pattern::Count(automaton) => Ok(automaton),
+        Pattern::Moore(_) => Err(SourceError::BadTable(8)),
     }
-    read_rle(alloc, text, margin)
+}
+
+/// The automaton of a short pattern of eight neighbours.
+pub fn eight(
+    alloc: Global,
+    text: &[u8],
+    margin: u32,
+) -> Result<Automaton<MooreLocal>, SourceError> {
+    match read(alloc, text, margin)? {
+        Pattern::Moore(automaton) => Ok(automaton),
+        Pattern::Count(_) => Err(SourceError::BadTable(4)),
+    }
 }
 
 fn table(alloc: Global, text: &[u8], margin: u32) -> Result<Automaton<TableLocal>, SourceError> {
@@ -42,6 +63,37 @@ fn patterns_have_a_margin(rt: HostRuntime) -> Result<(), Fail> {
     let hex = pattern(rt.alloc(), b"x = 1, y = 1, rule = b6/s66H\n!", 0).map_err(|_| "refused")?;
     assert_eq!(rt; hex.kind, GridKind::Hex);
     assert_eq!(rt; hex.local.degree(), 6);
+    Ok(())
+}
+
+#[test]
+fn eight_neighbours_have_a_margin(rt: HostRuntime) -> Result<(), Fail> {
+    let life = eight(rt.alloc(), b"x = 2, y = 1\nbo!", 1).map_err(|_| "refused")?;
+    assert_eq!(rt; (life.kind, life.wrap), (GridKind::Square, false));
+    assert_eq!(rt; (life.width, life.height, life.edge), (4, 3, 0));
+    let cells = [0, 0, 0, 0, 0, 0, 1, 0, 0, 0, 0, 0];
+    assert_eq!(rt; life.cells.as_slice(), cells.as_slice());
+    let other = eight(rt.alloc(), b"x = 1, y = 1, rule = b836/s07:t10,5\n!", 3).map_err(
+        |_| "refused",
+    )?;
+    assert_eq!(rt; (other.kind, other.wrap), (GridKind::Square, true));
+    assert_eq!(rt; (other.width, other.height, other.edge), (10, 5, 0));
+    for (live, born, stays) in [
+        (0, 0, 1),
+        (1, 0, 0),
+        (2, 0, 0),
+        (3, 1, 0),
+        (4, 0, 0),
+        (5, 0, 0),
+        (6, 1, 0),
+        (7, 0, 1),
+        (8, 1, 0),
+    ] {
+        assert_eq!(rt;
+            (other.local.next(0, live), other.local.next(1, live)),
+            (born, stays)
+        );
+    }
     Ok(())
 }
 

@@ -1,10 +1,11 @@
 // Random cells on tori, whose steps are compared with those of a plain program.
 ghost use Rattle.std.specs.Prelude.{◌≤◌};
 
-use crate::margins::pattern;
+use crate::margins::{eight, pattern};
 use std::alloc::{AllocError, Global};
 use std::process::Abort;
 use std::test::Fail;
+use surf_life::advance_moore;
 
 // A torus and a rule on it: the shifts to the neighbours, each one more than it is, and for each
 // number of live neighbours the next states of a dead and of a live cell.
@@ -19,6 +20,17 @@ struct Plain<'a> {
 const FOUR: [(u32, u32); 4] = [(0, 1), (2, 1), (1, 0), (1, 2)];
 
 const SIX: [(u32, u32); 6] = [(0, 1), (2, 1), (1, 0), (1, 2), (0, 0), (2, 2)];
+
+const EIGHT: [(u32, u32); 8] = [
+    (0, 0),
+    (1, 0),
+    (2, 0),
+    (0, 1),
+    (2, 1),
+    (0, 2),
+    (1, 2),
+    (2, 2),
+];
 
 // So many cells, each live or dead by a generator of words.
 fn soup(alloc: Global, seed: u64, count: u32) -> Result<Vec<u32>, AllocError> {
@@ -156,6 +168,59 @@ fn hexagonal_tori_agree(rt: HostRuntime) -> Result<(), Fail> {
                 next: &next,
             };
             agrees(&rt, rt.alloc(), header, &plain, seed)?;
+        }
+    }
+    Ok(())
+}
+
+// Five steps of some random cells of which eight neighbours are counted.
+fn eight_agree(
+    rt: &impl Abort,
+    alloc: Global,
+    header: &[u8],
+    plain: &Plain<'_>,
+    seed: u64,
+) -> Result<(), Fail> {
+    let mut cells = soup(alloc, seed, plain.width.saturating_mul(plain.height))?;
+    let text = spelled(alloc, header, &cells, plain.width)?;
+    let mut found = eight(alloc, &text, 1000).map_err(|_| "refused")?;
+    for _step in 0..5 {
+        assert_eq!(rt; found.cells.as_slice(), cells.as_slice());
+        if found.edge == 0 {
+            advance_moore(alloc, &mut found, 1).map_err(|_| AllocError)?;
+        }
+        cells = after(alloc, plain, &cells)?;
+    }
+    assert_eq!(rt; found.cells.as_slice(), cells.as_slice());
+    Ok(())
+}
+
+#[test]
+fn eight_on_tori_agree(rt: HostRuntime) -> Result<(), Fail> {
+    let next = [
+        (0, 0),
+        (0, 0),
+        (0, 1),
+        (1, 1),
+        (0, 0),
+        (0, 0),
+        (1, 0),
+        (0, 0),
+        (0, 1),
+    ];
+    for seed in 1..6 {
+        for (header, width, height) in [
+            (b"x = 5, y = 5, rule = B36/S238:T5,5\n".as_slice(), 5, 5),
+            (b"x = 15, y = 5, rule = b63/s823:t15,5\n", 15, 5),
+            (b"x = 10, y = 20, rule = B36/S238:T10,20\n", 10, 20),
+        ] {
+            let plain = Plain {
+                width,
+                height,
+                shifts: &EIGHT,
+                next: &next,
+            };
+            eight_agree(&rt, rt.alloc(), header, &plain, seed)?;
         }
     }
     Ok(())

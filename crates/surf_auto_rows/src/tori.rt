@@ -138,6 +138,7 @@ fn refuses_other_forms(rt: HostRuntime) {
         b"x = 5, y = 5, rule = B1/SV:T5,+5\no!",
         // before the sides are looked at
         b"x = 5, y = 5, rule = B5/SV:T0,0\no!",
+        b"x = 5, y = 5, rule = B9/S23:T0,0\no!",
         b"x = 0, y = 5, rule = B1/SX:T5,6\no!",
     ] {
         refuses(&rt, alloc, text, SourceError::RuleForm(1));
@@ -149,12 +150,16 @@ fn refuses_in_order(rt: HostRuntime) {
     let alloc = rt.alloc();
     for (text, error) in [
         (
-            b"x = 5, y = 5, rule = B3/S23:T5,5\no!".as_slice(),
-            SourceError::Moore(1),
+            b"x = 9, y = 0, rule = B3/S23:T0,6\no!".as_slice(),
+            SourceError::TorusSize(1),
         ),
         (
-            b"x = 9, y = 0, rule = B3/S23:T0,6\no!",
-            SourceError::Moore(1),
+            b"x = 5, y = 5, rule = B3/S23:T7,7\no!",
+            SourceError::TorusSize(1),
+        ),
+        (
+            b"x = 0, y = 5, rule = B3/S23:T5,5\no!",
+            SourceError::EmptyGrid,
         ),
         (
             b"x = 0, y = 5, rule = B1/SV:T5,6\n!",

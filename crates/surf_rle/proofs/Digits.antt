@@ -26,33 +26,33 @@ digits_end [] all = refl
 digits_end (b ∷ bs) all = rw (all zero (omega arith), digits_end bs (λ k h. all (suc k) (omega arith))) refl
 
 -- one more digit
-counts_hit : (t : List ℕ) (d k : ℕ) → k < 7 → d ≡ 48 + k → slice_set (counts_of t) k true ≡ counts_of (t ++ d ∷ [])
+counts_hit : (t : List ℕ) (d k : ℕ) → k < 9 → d ≡ 48 + k → slice_set (counts_of 9 t) k true ≡ counts_of 9 (t ++ d ∷ [])
 counts_hit t d k lt is =
-    fill_by_all (λ n. list_any (λ e. e == 48 + n) (t ++ d ∷ [])) (slice_set (counts_of t) k true) 7 false (length-set (counts_of t) k true)
+    fill_by_all (λ n. list_any (λ e. e == 48 + n) (t ++ d ∷ [])) (slice_set (counts_of 9 t) k true) 9 false (length-set (counts_of 9 t) k true)
     (λ j below. elim (cases_eq j k) [
-      | inl same ↦ ap (λ n. get_or (slice_set (counts_of t) k true) n false) same
-          ∙ get_or-set_same (counts_of t) k true false (omega arith)
+      | inl same ↦ ap (λ n. get_or (slice_set (counts_of 9 t) k true) n false) same
+          ∙ get_or-set_same (counts_of 9 t) k true false (omega arith)
           ∙ sym (list_any-append (λ e. e == 48 + j) t (d ∷ [])
           ∙ rw (eq-eqb d (48 + j) (is ∙ ap (λ n. 48 + n) (sym same))) (or_true (list_any (λ e. e == 48 + j) t)))
-      | inr other ↦ get_or-set_other (counts_of t) k j true false other
-          ∙ get_or-map-range_with_len (λ n. list_any (λ e. e == 48 + n) t) 0 7 j j false below (omega arith)
+      | inr other ↦ get_or-set_other (counts_of 9 t) k j true false other
+          ∙ get_or-map-range_with_len (λ n. list_any (λ e. e == 48 + n) t) 0 9 j j false below (omega arith)
           ∙ sym (list_any-append (λ e. e == 48 + j) t (d ∷ [])
           ∙ rw (ne_eqb d (48 + j) (λ e. other (omega (arith, e, is)))) (or_false (list_any (λ e. e == 48 + j) t)))
     ])
 
-counts_miss : (t : List ℕ) (d : ℕ) → ((k : ℕ) → k < 7 → d ≡ 48 + k → ⊥) → counts_of t ≡ counts_of (t ++ d ∷ [])
+counts_miss : (t : List ℕ) (d : ℕ) → ((k : ℕ) → k < 9 → d ≡ 48 + k → ⊥) → counts_of 9 t ≡ counts_of 9 (t ++ d ∷ [])
 counts_miss t d none =
-    fill_by_all (λ n. list_any (λ e. e == 48 + n) (t ++ d ∷ [])) (counts_of t) 7 false refl
-    (λ j below. get_or-map-range_with_len (λ n. list_any (λ e. e == 48 + n) t) 0 7 j j false below (omega arith)
+    fill_by_all (λ n. list_any (λ e. e == 48 + n) (t ++ d ∷ [])) (counts_of 9 t) 9 false refl
+    (λ j below. get_or-map-range_with_len (λ n. list_any (λ e. e == 48 + n) t) 0 9 j j false below (omega arith)
     ∙ sym (list_any-append (λ e. e == 48 + j) t (d ∷ [])
     ∙ rw (ne_eqb d (48 + j) (none j below)) (or_false (list_any (λ e. e == 48 + j) t))))
 
 -- the digits up to a place, and the digit there
-pub counts_more : (t : List ℕ) (i : ℕ) → i < length t → 48 ≤ get_or t i 0 → get_or t i 0 ≤ 54 → slice_set (counts_of (take i t)) (get_or t i 0 - 48) true ≡ counts_of (take (i + 1) t)
+pub counts_more : (t : List ℕ) (i : ℕ) → i < length t → 48 ≤ get_or t i 0 → get_or t i 0 ≤ 56 → slice_set (counts_of 9 (take i t)) (get_or t i 0 - 48) true ≡ counts_of 9 (take (i + 1) t)
 counts_more t i lt low high =
-    counts_hit (take i t) (get_or t i 0) (get_or t i 0 - 48) (omega arith) (omega arith) ∙ ap counts_of (sym (take_more t i 0 lt))
+    counts_hit (take i t) (get_or t i 0) (get_or t i 0 - 48) (omega arith) (omega arith) ∙ ap (counts_of 9) (sym (take_more t i 0 lt))
 
-pub counts_same : (t : List ℕ) (i : ℕ) → i < length t → ((get_or t i 0 < 48) ⊎ (54 < get_or t i 0)) → counts_of (take i t) ≡ counts_of (take (i + 1) t)
+pub counts_same : (t : List ℕ) (i : ℕ) → i < length t → ((get_or t i 0 < 48) ⊎ (56 < get_or t i 0)) → counts_of 9 (take i t) ≡ counts_of 9 (take (i + 1) t)
 counts_same t i lt out =
     counts_miss (take i t) (get_or t i 0) (λ k below e. elim out [ inl low ↦ omega (arith, low, e) | inr high ↦ omega (arith, high, e) ])
-    ∙ ap counts_of (sym (take_more t i 0 lt))
+    ∙ ap (counts_of 9) (sym (take_more t i 0 lt))

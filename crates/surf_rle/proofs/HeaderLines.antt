@@ -2,13 +2,13 @@
 use Rattle.std.proofs.Common.{ℕ, suc, ◌≡◌, ◌+◌, Bool, true, false, List, [], ◌∷◌, length, Option, Some, None, Result, Err, refl, sym, ap, subst, arith, if◌then◌else◌, ◌∙◌}
 use Rattle.surf_text.specs.Bytes.{lines_of, trimmed}
 use Rattle.surf_text.specs.Cursors.{Cursor, Kept, first_kept}
-use Rattle.surf_auto.specs.Sync.{Universe}
 use Rattle.surf_auto.specs.declared.error.SourceError.{SourceError}
 use Rattle.surf_auto.specs.declared.error.SourceError.TheVariants.{BadHeader}
 use Rattle.surf_rle.specs.Headers.{header_of}
+use Rattle.surf_rle.specs.Sources.{Source}
 use Rattle.surf_rle.specs.Rle.{if_header, is_skipped, rle_from, rle_of}
 
-found_if : (b : Bool) (margin n : ℕ) (t : List ℕ) (ts : List (List ℕ)) (k : Kept) (r : Result Universe SourceError) (o : Option Kept) → (o ≡ Some k → r ≡ if_header margin k.number (header_of k.line) k.behind)
+found_if : (b : Bool) (margin n : ℕ) (t : List ℕ) (ts : List (List ℕ)) (k : Kept) (r : Result Source SourceError) (o : Option Kept) → (o ≡ Some k → r ≡ if_header margin k.number (header_of k.line) k.behind)
     → (if b then o else Some (record { line = t; number = n; behind = ts })) ≡ Some k
     → (if b then r else if_header margin n (header_of t) ts) ≡ if_header margin k.number (header_of k.line) k.behind
 found_if true margin n t ts k r o more is = more is

@@ -5,5 +5,4 @@ pub mod Covered
 pub mod Drawn
 pub mod Told
 pub mod Universes
-pub mod OnGrids
 pub mod HeaderLines

@@ -1,7 +1,7 @@
 -- The faults that a pattern may have.
 use Rattle.std.proofs.Common.{ℕ, ◌≡◌, Bool, true, false, nat_lt, nat_le, ◌+◌, ◌&&◌, if◌then◌else◌, List, [], ◌∷◌, Option, Some, None, Result, Ok, Err, refl}
 use Rattle.surf_auto.specs.declared.error.SourceError.{SourceError}
-use Rattle.surf_auto.specs.declared.error.SourceError.TheVariants.{BadHeader, RuleForm, Moore, TorusSize, EmptyGrid, GridTooLarge, BadItem, OutOfBox, BadTable, Unclosed, TooManyRules, NoMemory}
+use Rattle.surf_auto.specs.declared.error.SourceError.TheVariants.{BadHeader, RuleForm, TorusSize, EmptyGrid, GridTooLarge, BadItem, OutOfBox, BadTable, Unclosed, TooManyRules, NoMemory}
 use Rattle.surf_rle.specs.Patterns.{Mark, Placed, before_end, has_end, placed, sign_fault, fault_or, first_fault, unless}
 use Rattle.surf_rle.specs.Rle.{Refuses}
 use Rattle.surf_rle.specs.Drawings.{rest_of, over}
@@ -16,7 +16,6 @@ is_told (BadTable n) = false
 is_told (TooManyRules n) = false
 is_told (BadHeader n) = true
 is_told (RuleForm n) = true
-is_told (Moore n) = true
 is_told (TorusSize n) = true
 is_told EmptyGrid = true
 is_told (GridTooLarge n) = true
@@ -30,7 +29,6 @@ refuses r (BadTable n) told is = cc
 refuses r (TooManyRules n) told is = cc
 refuses r (BadHeader n) told is = is
 refuses r (RuleForm n) told is = is
-refuses r (Moore n) told is = is
 refuses r (TorusSize n) told is = is
 refuses r EmptyGrid told is = is
 refuses r (GridTooLarge n) told is = is

@@ -6,15 +6,14 @@ use Rattle.std.proofs.lemmas.List.{length-map}
 use Rattle.std.proofs.lemmas.List.FromFn.{length-map-range_with_len}
 use Rattle.surf_lattice.specs.declared.site.Site.{Site}
 use Rattle.surf_lattice.specs.Grids.{degree, site_at, sites}
-use Rattle.surf_auto.specs.Counts.{Counts, count_rule}
-use Rattle.surf_auto.specs.Locals.{IsLocal}
+use Rattle.surf_auto.specs.Locals.{IsLocal, LocalRule}
 use Rattle.surf_auto.specs.Sync.{IsUniverse, universe}
 use Rattle.surf_auto.specs.declared.error.SourceError.{SourceError}
 use Rattle.surf_auto.specs.declared.error.SourceError.TheVariants.{Unclosed}
 use Rattle.surf_rle.specs.Patterns.{Mark, Placed, before_end, has_end, placed, first_fault, unless, covers, cell_at, cells_read}
 use Rattle.surf_rle.specs.Rle.{box_fault}
 use Rattle.surf_rle.specs.Sheets.{area, sheet_grid}
-use Rattle.surf_rle.specs.Drawings.{IsPlaced, rest_of, over}
+use Rattle.surf_rle.specs.Drawings.{AreCells, IsPlaced, rest_of, over}
 use Rattle.surf_rle.specs.declared.sheet.Sheet.{Sheet}
 use Rattle.surf_rle.proofs.Covered.{over_zeros}
 
@@ -65,22 +64,30 @@ box_fits s is = elim (cases_Bool ((s.width == 0) || (s.height == 0))) [
   ]
 ]
 
-pub is_universe : (s : Sheet) (C : Counts) (cells : List ℕ) (ms : List Mark) → IsPlaced s → box_fault s ≡ None → cells_read s ms ≡ Ok cells →
-    IsLocal (count_rule C) → C.degree ≡ degree s.kind → IsUniverse (universe (sheet_grid s) (count_rule C) 0 cells)
-is_universe s C cells ms at box read local same =
+pub are_cells : (s : Sheet) (cells : List ℕ) (ms : List Mark) → IsPlaced s → box_fault s ≡ None → cells_read s ms ≡ Ok cells → AreCells s cells
+are_cells s cells ms at box read =
     let f = box_fits s box in
     let g = sheet_grid s in
     let ps = placed 0 0 (before_end ms) in
     let is = read_two s.corner ps (sites g) (first_fault s.width s.height ps) (has_end ms) cells read in
-    let sized : length cells ≡ area s =
-    ap length (sym is) ∙ length-map (sites g) (cell_at s.corner ps) ∙ length-map-range_with_len (site_at g) 0 (g.width * g.height) in
     record {
       is_grid = record { wide = omega (arith, f.wide, at.across); high = omega (arith, f.high, at.down); joined = at.joined };
       coloured = at.coloured;
-      is_local = local;
-      same_degree = same;
-      one_per_site = sized;
-      few_sites = omega (arith, f.few);
-      cells_within = λ i below. subst (λ xs. slice_index xs i < 2) is (all_two s.corner ps (sites g) i);
-      edge_within = λ phase below. omega arith;
+      one_per_site = ap length (sym is) ∙ length-map (sites g) (cell_at s.corner ps) ∙ length-map-range_with_len (site_at g) 0 (g.width * g.height);
+      few = f.few;
+      two = λ i below. subst (λ xs. slice_index xs i < 2) is (all_two s.corner ps (sites g) i);
     }
+
+-- the universe of a rule on such cells
+pub on_cells : (s : Sheet) (R : LocalRule) (cells : List ℕ) → AreCells s cells → IsLocal R → R.degree ≡ degree s.kind →
+    ((i : ℕ) → i < length cells → slice_index cells i < R.states 0) → IsUniverse (universe (sheet_grid s) R 0 cells)
+on_cells s R cells are local same within = record {
+  is_grid = are.is_grid;
+  coloured = are.coloured;
+  is_local = local;
+  same_degree = same;
+  one_per_site = are.one_per_site;
+  few_sites = omega (arith, are.few, are.one_per_site);
+  cells_within = within;
+  edge_within = local.some_states;
+}

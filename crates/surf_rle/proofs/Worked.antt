@@ -9,18 +9,24 @@ use Rattle.surf_auto.specs.Sync.{box_of, plain, universe}
 use Rattle.surf_auto.specs.declared.error.SourceError.{SourceError}
 use Rattle.surf_auto.specs.declared.error.SourceError.TheVariants as faults
 use Rattle.surf_rle.specs.Rle.{rle_of}
+use Rattle.surf_rle.specs.Sources.{Plain, Eight}
 
 abbrev no : List Bool
 no = replicate 7 false
 
 abbrev Spells : ℕ → List (List ℕ) → GridKind → ℕ → ℕ → List Bool → List Bool → List ℕ → Type 0
 Spells margin ls kind width height birth survival cells =
-    rle_of margin (ended ls) ≡ Ok (universe (plain kind width height) (count_rule (record { degree = degree kind; birth = birth; survival = survival })) 0 cells)
+    rle_of margin (ended ls) ≡ Ok (Plain (universe (plain kind width height) (count_rule (record { degree = degree kind; birth = birth; survival = survival })) 0 cells))
 
 -- on a torus, whatever the margin
 abbrev Joins : ℕ → List (List ℕ) → GridKind → ℕ → ℕ → List Bool → List Bool → List ℕ → Type 0
 Joins margin ls kind width height birth survival cells =
-    rle_of margin (ended ls) ≡ Ok (universe (box_of kind true width height) (count_rule (record { degree = degree kind; birth = birth; survival = survival })) 0 cells)
+    rle_of margin (ended ls) ≡ Ok (Plain (universe (box_of kind true width height) (count_rule (record { degree = degree kind; birth = birth; survival = survival })) 0 cells))
+
+-- eight neighbours, by the births and survivals of Conway's Life
+abbrev IsLife : ℕ → List (List ℕ) → Bool → ℕ → ℕ → List ℕ → Type 0
+IsLife margin ls wrap width height cells =
+    rle_of margin (ended ls) ≡ Ok (Eight (record { degree = 8; birth = slice_set (replicate 9 false) 3 true; survival = slice_set (slice_set (replicate 9 false) 2 true) 3 true }) (box_of Square wrap width height) cells)
 
 abbrev HasFault : List (List ℕ) → SourceError → Type 0
 HasFault ls f = rle_of 0 (ended ls) ≡ Err f
@@ -43,11 +49,18 @@ rows_down = refl
 dead_outside : Spells 0 (codes "x = 1, y = 1, rule = B/SV" ∷ codes "o4294967295b4294967295$b!" ∷ []) Square 1 1 no no (1 ∷ [])
 dead_outside = refl
 
-missing_rule : HasFault (codes "x = 1, y = 1" ∷ codes "o!" ∷ []) (faults.Moore 1)
+missing_rule : IsLife 0 (codes "x = 1, y = 1" ∷ codes "o!" ∷ []) false 1 1 (1 ∷ [])
 missing_rule = refl
 
-eight : HasFault (codes "x = 1, y = 1, rule = B3/S23" ∷ codes "o!" ∷ []) (faults.Moore 1)
+eight : IsLife 1 (codes "x = 2, y = 1, rule = B3/S23" ∷ codes "bo!" ∷ []) false 4 3 (replicate 6 0 ++ 1 ∷ replicate 5 0)
 eight = refl
+
+eight_on_a_torus : IsLife 1000 (codes "x = 2, y = 1, rule = b33/s32:t5,5" ∷ codes "bo!" ∷ []) true 5 5 (0 ∷ 1 ∷ replicate 23 0)
+eight_on_a_torus = refl
+
+-- each digit that a cell of eight neighbours may count
+all_digits : rle_of 0 (ended (codes "x = 1, y = 1, rule = B012345678/S8" ∷ codes "!" ∷ [])) ≡ Ok (Eight (record { degree = 8; birth = replicate 9 true; survival = slice_set (replicate 9 false) 8 true }) (plain Square 1 1) (0 ∷ []))
+all_digits = refl
 
 five_of_four : HasFault (codes "x = 1, y = 1, rule = B5/SV" ∷ codes "o!" ∷ []) (faults.RuleForm 1)
 five_of_four = refl
@@ -141,12 +154,15 @@ another_letter = refl
 blank_side : HasFault (codes "x = 5, y = 5, rule = B1/SV:T5, 5" ∷ codes "o!" ∷ []) (faults.RuleForm 1)
 blank_side = refl
 
--- the rule and its neighbours before the torus, and the torus before the box
+-- the rule before the torus, and the torus before the box
 wrong_rule_first : HasFault (codes "x = 5, y = 5, rule = B5/SV:T0,0" ∷ codes "o!" ∷ []) (faults.RuleForm 1)
 wrong_rule_first = refl
 
-eight_first : HasFault (codes "x = 5, y = 5, rule = B3/S23:T0,0" ∷ codes "o!" ∷ []) (faults.Moore 1)
-eight_first = refl
+eight_by_seven : HasFault (codes "x = 5, y = 5, rule = B3/S23:T7,7" ∷ codes "o!" ∷ []) (faults.TorusSize 1)
+eight_by_seven = refl
+
+nine_first : HasFault (codes "x = 5, y = 5, rule = B9/S23:T0,0" ∷ codes "o!" ∷ []) (faults.RuleForm 1)
+nine_first = refl
 
 torus_before_box : HasFault (codes "x = 0, y = 5, rule = B1/SV:T5,6" ∷ codes "o!" ∷ []) (faults.TorusSize 1)
 torus_before_box = refl

@@ -1,7 +1,7 @@
 -- What is left to read of a pattern where some of its cells are drawn.
-use Rattle.std.specs.Prelude.{◌≡◌, ℕ, ◌+◌, ◌≤◌, true, List, ◌++◌, length, map, slice_index, Option, Some, None, Result, Ok, Err, if◌then◌else◌}
+use Rattle.std.specs.Prelude.{◌≡◌, ℕ, ◌+◌, ◌<◌, ◌≤◌, true, List, ◌++◌, length, map, slice_index, Option, Some, None, Result, Ok, Err, if◌then◌else◌}
 use Rattle.std.specs.List.{list_any}
-use Rattle.surf_lattice.specs.Grids.{is_coloured, sites, place}
+use Rattle.surf_lattice.specs.Grids.{IsGrid, is_coloured, sites, place}
 use Rattle.surf_auto.specs.declared.error.SourceError.{SourceError}
 use Rattle.surf_auto.specs.declared.error.SourceError.TheVariants.{Unclosed}
 use Rattle.surf_rle.specs.Patterns.{Mark, Placed, before_end, has_end, placed, first_fault, covers, unless}
@@ -15,6 +15,14 @@ pub record IsPlaced (s : Sheet) : Type 0 where
   pub down : s.corner + s.height ≤ s.full_height
   pub coloured : is_coloured (sheet_grid s) ≡ true
   pub joined : s.wrap ≡ true → (3 ≤ s.full_width) × (3 ≤ s.full_height)
+
+-- dead and live cells, one for each site of a grid whose colours close
+pub record AreCells (s : Sheet) (cells : List ℕ) : Type 0 where
+  pub is_grid : IsGrid (sheet_grid s)
+  pub coloured : is_coloured (sheet_grid s) ≡ true
+  pub one_per_site : length cells ≡ area s
+  pub few : area s ≤ 1000000
+  pub two : (i : ℕ) → i < length cells → slice_index cells i < 2
 
 -- one cell per site of the grid, and a box that isn't empty
 pub record IsSheet (s : Sheet) (cells : List ℕ) : Type 0 where

@@ -4,6 +4,7 @@ pub mod Tori
 pub mod Sheets
 pub mod Items
 pub mod Patterns
+pub mod Sources
 pub mod Rle
 pub mod Said
 pub mod Drawings

@@ -4,6 +4,7 @@ use Rattle.std.specs.List.{list_all, list_any, range_with_len}
 use Rattle.surf_base.specs.Decimal.{is_digit}
 use Rattle.surf_text.specs.Bytes.{before, after, without_front}
 use Rattle.surf_lattice.specs.declared.site.GridKind.{GridKind}
+use Rattle.surf_lattice.specs.declared.site.GridKind.TheVariants.{Square, Hex}
 use Rattle.surf_lattice.specs.Grids.{degree}
 use Rattle.surf_auto.specs.Counts.{Counts}
 use Rattle.surf_rle.specs.declared.rule.Neighbours.{Neighbours}
@@ -63,9 +64,20 @@ rule_from (Some birth) (Some rest) = rule_behind birth (behind 83 115 rest)
 abbrev pub rule_of : List ℕ → Option RuleText
 rule_of t = rule_from (behind 66 98 (before 47 t)) (after 47 t)
 
--- for each count from 0 to 6, whether its digit stands among these
-abbrev pub counts_of : List ℕ → List Bool
-counts_of digits = map (λ n. list_any (λ d. d == 48 + n) digits) (range_with_len 0 7)
+-- the grid on which so many neighbours are counted
+abbrev pub kind_of : Neighbours → GridKind
+kind_of Four = Square
+kind_of Six = Hex
+kind_of Eight = Square
+
+-- for each count below n, whether its digit stands among these
+abbrev pub counts_of : ℕ → List ℕ → List Bool
+counts_of n digits = map (λ k. list_any (λ d. d == 48 + k) digits) (range_with_len 0 n)
 
 abbrev pub counts_on : GridKind → RuleText → Counts
-counts_on kind r = record { degree = degree kind; birth = counts_of r.birth; survival = counts_of r.survival }
+counts_on kind r =
+    record { degree = degree kind; birth = counts_of 7 r.birth; survival = counts_of 7 r.survival }
+
+abbrev pub counts_of_eight : RuleText → Counts
+counts_of_eight r =
+    record { degree = 8; birth = counts_of 9 r.birth; survival = counts_of 9 r.survival }

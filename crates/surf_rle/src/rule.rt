@@ -110,15 +110,23 @@ pub fn read_rule(text: &[u8]) -> Option<RuleText<'_>>
     rule_of_parts(birth, survival)
 }
 
-/// For each count from 0 to 6, whether its digit stands among these.
-pub fn counts(digits: &[u8]) -> [bool; 7]
-    ensures { result ≡ counts_of digits.now }
+/// For each count from 0 to 8, whether its digit stands among these.
+pub fn counts(digits: &[u8]) -> [bool; 9]
+    ensures { result ≡ counts_of 9 digits.now }
 {
-    let mut table = [false; 7];
+    let mut table = [false; 9];
     for digit in digits {
-        if b'0' <= *digit && *digit <= b'6' {
+        if b'0' <= *digit && *digit <= b'8' {
             table[(*digit - b'0') as usize] = true;
         }
     }
     table
+}
+
+/// For each count from 0 to 6, whether its digit stands among these.
+pub fn few_counts(digits: &[u8]) -> [bool; 7]
+    ensures { result ≡ counts_of 7 digits.now }
+{
+    let all = counts(digits);
+    [all[0], all[1], all[2], all[3], all[4], all[5], all[6]]
 }

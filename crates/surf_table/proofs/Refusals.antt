@@ -1,7 +1,7 @@
 -- Refusals that are passed on.
 use Rattle.std.proofs.Common.{ℕ, ◌≡◌, List, Option, Result, Ok, Err, IfErr, sym, ◌∙◌, ap, subst}
 use Rattle.surf_auto.specs.declared.error.SourceError.{SourceError}
-use Rattle.surf_auto.specs.declared.error.SourceError.TheVariants.{BadHeader, RuleForm, Moore, TorusSize, EmptyGrid, GridTooLarge, BadItem, OutOfBox, BadTable, Unclosed, TooManyRules, NoMemory}
+use Rattle.surf_auto.specs.declared.error.SourceError.TheVariants.{BadHeader, RuleForm, TorusSize, EmptyGrid, GridTooLarge, BadItem, OutOfBox, BadTable, Unclosed, TooManyRules, NoMemory}
 use Rattle.surf_table.specs.TableLines.{Line}
 use Rattle.surf_table.specs.TableTexts.{Refuses, and_then, read_line}
 
@@ -24,7 +24,6 @@ refused_first r more (TooManyRules n) h = ap (λ r. and_then r more) h
 refused_first r more NoMemory h = tt
 refused_first r more (BadHeader n) h = h
 refused_first r more (RuleForm n) h = h
-refused_first r more (Moore n) h = h
 refused_first r more (TorusSize n) h = h
 refused_first r more (BadItem n) h = h
 refused_first r more (OutOfBox n) h = h
@@ -47,7 +46,6 @@ module _ {A B : Type 0} (g : Result A SourceError → Result B SourceError) (bac
   refused_under r s NoMemory e h = tt
   refused_under r s (BadHeader n) e h = h
   refused_under r s (RuleForm n) e h = h
-  refused_under r s (Moore n) e h = h
   refused_under r s (TorusSize n) e h = h
   refused_under r s (BadItem n) e h = h
   refused_under r s (OutOfBox n) e h = h
@@ -63,7 +61,6 @@ module _ {A B : Type 0} (g : Result A SourceError → Result B SourceError) (on 
   refused_over r NoMemory h = tt
   refused_over r (BadHeader n) h = h
   refused_over r (RuleForm n) h = h
-  refused_over r (Moore n) h = h
   refused_over r (TorusSize n) h = h
   refused_over r (BadItem n) h = h
   refused_over r (OutOfBox n) h = h

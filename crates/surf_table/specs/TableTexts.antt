@@ -5,7 +5,7 @@ use Rattle.surf_lattice.specs.declared.site.GridKind.{GridKind}
 use Rattle.surf_lattice.specs.declared.site.GridKind.TheVariants.{Square, Hex}
 use Rattle.surf_text.specs.Bytes.{lines_of}
 use Rattle.surf_auto.specs.declared.error.SourceError.{SourceError}
-use Rattle.surf_auto.specs.declared.error.SourceError.TheVariants.{BadHeader, RuleForm, Moore, TorusSize, EmptyGrid, GridTooLarge, BadItem, OutOfBox, BadTable, Unclosed, TooManyRules, NoMemory}
+use Rattle.surf_auto.specs.declared.error.SourceError.TheVariants.{BadHeader, RuleForm, TorusSize, EmptyGrid, GridTooLarge, BadItem, OutOfBox, BadTable, Unclosed, TooManyRules, NoMemory}
 use Rattle.surf_auto.specs.Locals.{rule_count}
 use Rattle.surf_auto.specs.Tables.{greatest, table_rule}
 use Rattle.surf_auto.specs.Sync.{Universe, plain, universe}
@@ -150,7 +150,6 @@ Refuses r (TooManyRules n) = r ≡ Err (TooManyRules n)
 Refuses r NoMemory = Unit {0}
 Refuses r (BadHeader n) = ⊥
 Refuses r (RuleForm n) = ⊥
-Refuses r (Moore n) = ⊥
 Refuses r (TorusSize n) = ⊥
 Refuses r (BadItem n) = ⊥
 Refuses r (OutOfBox n) = ⊥

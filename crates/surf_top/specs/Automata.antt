@@ -8,6 +8,8 @@ use Rattle.surf_colony.specs.Colonies.{printed}
 use Rattle.surf_colony.specs.InStep.{KeepsInStep}
 use Rattle.surf_manifest.specs.Grammar.{ManifestText, manifest_of}
 use Rattle.surf_manifest_print.specs.Prints.{print_of}
+use Rattle.surf_rle.specs.Sources.{ShowsSteps, universe_of}
+use Rattle.surf_rle.specs.Sources as sources
 use Rattle.surf_top.specs.declared.status.Refusal.{Refusal}
 use Rattle.surf_top.specs.declared.status.Refusal.TheVariants.{Source}
 use Rattle.surf_top.specs.Generations.{source_of}
@@ -31,17 +33,20 @@ unless_many rules text = if nat_lt 1048576 rules then Err (Source (TooManyRules 
 
 -- A last generation, where one is given, multiplies the rules. Without one the source's own limit
 -- holds of them.
-abbrev pub printed_colony : Option ℕ → Result Universe SourceError → Result (List ℕ) Refusal
+abbrev pub printed_colony : Option ℕ → Result sources.Source SourceError → Result (List ℕ) Refusal
 printed_colony last (Err e) = Err (Source e)
-printed_colony None (Ok U) = Ok (colony_text U None)
-printed_colony (Some last) (Ok U) =
-    unless_many (rule_count_in last U.rule) (colony_text U (Some last))
+printed_colony None (Ok S) = Ok (colony_text (universe_of S) None)
+printed_colony (Some last) (Ok S) =
+    unless_many (rule_count_in last (universe_of S).rule) (colony_text (universe_of S) (Some last))
 
--- the grammar reads in the text a manifest, in every run of which the cells of the automaton that
--- the input spells keep in step
+-- The grammar reads in the text a manifest, in every run of which the cells of what the input
+-- spells keep in step: a generation is a phase there, and after all phases of k steps each cell
+-- shows what the source shows after k steps.
 pub record HoldsColony (margin : ℕ) (last : Option ℕ) (input text : List ℕ) : Type 0 where
-  pub automaton : Universe
-  pub spelled : source_of margin input ≡ Ok automaton
+  pub source : sources.Source
+  pub spelled : source_of margin input ≡ Ok source
   pub manifest : ManifestText
   pub read : manifest_of text ≡ Ok manifest
-  pub in_step : KeepsInStep automaton (in_phases automaton last) manifest.system
+  pub in_step :
+      KeepsInStep (universe_of source) (in_phases (universe_of source) last) manifest.system
+  pub steps : ShowsSteps source

@@ -97,7 +97,6 @@ answer_to_bits evals.NoMemory = NoMemory
 abbrev pub answer_to_source : SourceError → Status
 answer_to_source (sources.BadHeader n) = Refused (Source (sources.BadHeader n))
 answer_to_source (sources.RuleForm n) = Refused (Source (sources.RuleForm n))
-answer_to_source (sources.Moore n) = Refused (Source (sources.Moore n))
 answer_to_source (sources.TorusSize n) = Refused (Source (sources.TorusSize n))
 answer_to_source sources.EmptyGrid = Refused (Source sources.EmptyGrid)
 answer_to_source (sources.GridTooLarge n) = Refused (Source (sources.GridTooLarge n))

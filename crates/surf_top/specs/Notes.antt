@@ -107,7 +107,6 @@ blif_words blifs.NoMemory = codes "no-memory" ++ []
 abbrev pub source_words : SourceError → List ℕ
 source_words (sources.BadHeader n) = codes "bad-header" ++ behind (decimal n)
 source_words (sources.RuleForm n) = codes "rule-form" ++ behind (decimal n)
-source_words (sources.Moore n) = codes "moore" ++ behind (decimal n)
 source_words (sources.TorusSize n) = codes "torus-size" ++ behind (decimal n)
 source_words sources.EmptyGrid = codes "empty-grid" ++ []
 source_words (sources.GridTooLarge n) = codes "grid-too-large" ++ behind (decimal n)

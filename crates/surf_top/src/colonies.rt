@@ -8,6 +8,7 @@ ghost use Rattle.surf_colony.specs.Colonies.{StartsWithin};
 ghost use Rattle.surf_colony.specs.InStep.{KeepsInStep};
 ghost use Rattle.surf_manifest.specs.Grammar.{manifest_of};
 ghost use Rattle.surf_manifest_print.specs.Prints.{print_of};
+ghost use Rattle.surf_rle.specs.Sources.{Eight, Plain, ShowsSteps, Source, universe_of};
 ghost use Rattle.surf_top.specs.Answers.{IsQuiet};
 ghost use Rattle.surf_top.specs.Automata.{in_phases, printed_colony};
 ghost use Rattle.surf_top.specs.Commands.{EndsJob};
@@ -15,7 +16,7 @@ ghost use Rattle.surf_top.specs.Generations.{source_of};
 ghost use Rattle.surf_top.specs.Jobs as jobs;
 ghost use Rattle.surf_top.specs.Jobs.{IsWithin, Job};
 ghost use Rattle.surf_top.specs.Outputs.{IsText, Shows};
-ghost use Rattle.surf_top.specs.declared.status.Refusal.TheVariants.{Source};
+ghost use Rattle.surf_top.specs.declared.status.Refusal.TheVariants as refusals;
 ghost use Rattle.surf_top.specs.Writes.{writes};
 
 use crate::Status;
@@ -24,9 +25,10 @@ use std::alloc::Global;
 use surf_auto::{Automaton, Local, SourceError, is_table};
 use surf_base::{NoMemory, Sink, write_all};
 use surf_colony::{compile_automaton, compile_last};
+use surf_life::MooreLocal;
 use surf_manifest::Manifest;
 use surf_manifest_print::print_manifest;
-use surf_rle::read_rle;
+use surf_rle::{Pattern, read_rle};
 use surf_sync::rule_count_last;
 use surf_table::read_table;
 
@@ -47,7 +49,7 @@ fn compile_ending<L: Local>(
     ensures text { let a = automaton.now in
         let U = universe (box_of a.kind a.wrap a.width a.height) (L.rule a.local) a.edge
         a.cells.items in
-        IfOk result (λ m. printed_colony (Some last) (Ok U) ≡ Ok (print_of m.text None)) }
+        IfOk result (λ m. printed_colony (Some last) (Ok (Plain U)) ≡ Ok (print_of m.text None)) }
     ensures in_step { let a = automaton.now in
         let U = universe (box_of a.kind a.wrap a.width a.height) (L.rule a.local) a.edge
         a.cells.items in
@@ -56,7 +58,7 @@ fn compile_ending<L: Local>(
         let U = universe (box_of a.kind a.wrap a.width a.height) (L.rule a.local) a.edge
         a.cells.items in
         IfErr result (λ e. (e ≡ sources.NoMemory → ⊥)
-        → printed_colony (Some last) (Ok U) ≡ Err (Source e)) }
+        → printed_colony (Some last) (Ok (Plain U)) ≡ Err (refusals.Source e)) }
 {
     let local = &automaton.local;
     let count = rule_count_last(local, local.degree(), last);
@@ -80,7 +82,7 @@ fn compile<L: Local>(
     ensures text { let a = automaton.now in
         let U = universe (box_of a.kind a.wrap a.width a.height) (L.rule a.local) a.edge
         a.cells.items in
-        IfOk result (λ m. printed_colony last (Ok U) ≡ Ok (print_of m.text None)) }
+        IfOk result (λ m. printed_colony last (Ok (Plain U)) ≡ Ok (print_of m.text None)) }
     ensures in_step { let a = automaton.now in
         let U = universe (box_of a.kind a.wrap a.width a.height) (L.rule a.local) a.edge
         a.cells.items in
@@ -89,7 +91,7 @@ fn compile<L: Local>(
         let U = universe (box_of a.kind a.wrap a.width a.height) (L.rule a.local) a.edge
         a.cells.items in
         IfErr result (λ e. (e ≡ sources.NoMemory → ⊥)
-        → printed_colony last (Ok U) ≡ Err (Source e)) }
+        → printed_colony last (Ok (Plain U)) ≡ Err (refusals.Source e)) }
 {
     match last {
         Some(last) => compile_ending(alloc, automaton, last),
@@ -112,7 +114,35 @@ fn write_manifest<K: Sink>(alloc: Global, manifest: Manifest, out: &mut K) -> St
     ended(write_all(out, &text))
 }
 
-// Writes the surface of an automaton. The automaton is let go before its text is made.
+// Writes the surface of the automaton of a source. It is let go before its text is made.
+fn write_source<L: Local + Drop, K: Sink>(
+    alloc: Global,
+    automaton: Automaton<L>,
+    last: Option<u32>,
+    out: &mut K,
+) -> Status
+    requires starts { let a = automaton in
+        StartsWithin (universe (box_of a.kind a.wrap a.width a.height) (L.rule a.local) a.edge
+        a.cells.items) }
+    requires few { rule_count (L.rule automaton.local) ≤ 1048576 }
+    requires limits { IfSome last (λ n. (1 ≤ n) × (n ≤ 1000000)) }
+    ensures ends { let a = automaton in
+        let U = universe (box_of a.kind a.wrap a.width a.height) (L.rule a.local) a.edge
+        a.cells.items in
+        (margin : ℕ) (input : List ℕ) (S : Source) → source_of margin input ≡ Ok S
+        → universe_of S ≡ U → ShowsSteps S → EndsJob (jobs.Automaton margin last) input
+        (writes K.written K.faults out.old out.new) result }
+    ensures quiet { IsQuiet result → out.new ≡ out.old }
+{
+    let manifest = match compile(alloc, &automaton, last) {
+        Ok(manifest) => manifest,
+        Err(error) => return refused_source(error),
+    };
+    drop(automaton);
+    write_manifest(alloc, manifest, out)
+}
+
+// Writes the surface of an automaton that is itself what was spelled.
 fn write_colony<L: Local + Drop, K: Sink>(
     alloc: Global,
     automaton: Automaton<L>,
@@ -127,17 +157,31 @@ fn write_colony<L: Local + Drop, K: Sink>(
     ensures ends { let a = automaton in
         let U = universe (box_of a.kind a.wrap a.width a.height) (L.rule a.local) a.edge
         a.cells.items in
-        (margin : ℕ) (input : List ℕ) → source_of margin input ≡ Ok U
+        (margin : ℕ) (input : List ℕ) → source_of margin input ≡ Ok (Plain U)
         → EndsJob (jobs.Automaton margin last) input
         (writes K.written K.faults out.old out.new) result }
     ensures quiet { IsQuiet result → out.new ≡ out.old }
 {
-    let manifest = match compile(alloc, &automaton, last) {
-        Ok(manifest) => manifest,
-        Err(error) => return refused_source(error),
-    };
-    drop(automaton);
-    write_manifest(alloc, manifest, out)
+    write_source(alloc, automaton, last, out)
+}
+
+// Writes a surface on which eight neighbours are counted, by half generations.
+fn write_eight<K: Sink>(
+    alloc: Global,
+    automaton: Automaton<MooreLocal>,
+    last: Option<u32>,
+    out: &mut K,
+) -> Status
+    requires dead { automaton.edge ≡ 0 }
+    requires limits { IfSome last (λ n. (1 ≤ n) × (n ≤ 1000000)) }
+    ensures ends { let a = automaton in (margin : ℕ) (input : List ℕ)
+        → source_of margin input
+        ≡ Ok (Eight a.local (box_of a.kind a.wrap a.width a.height) a.cells.items)
+        → EndsJob (jobs.Automaton margin last) input
+        (writes K.written K.faults out.old out.new) result }
+    ensures quiet { IsQuiet result → out.new ≡ out.old }
+{
+    write_source(alloc, automaton, last, out)
 }
 
 fn compile_table<K: Sink>(
@@ -178,9 +222,13 @@ fn compile_pattern<K: Sink>(
     ensures quiet { IsQuiet result → out.new ≡ out.old }
 {
     match read_rle(alloc, &input, margin) {
-        Ok(automaton) => {
+        Ok(Pattern::Count(automaton)) => {
             drop(input);
             write_colony(alloc, automaton, last, out)
+        }
+        Ok(Pattern::Moore(automaton)) => {
+            drop(input);
+            write_eight(alloc, automaton, last, out)
         }
         Err(error) => refused_source(error),
     }

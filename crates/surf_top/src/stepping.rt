@@ -3,6 +3,7 @@ ghost use Rattle.std.specs.Prelude.{◌≡◌, ◌≤◌, ◌<◌, ◌*◌, ℕ,
 ghost use Rattle.std.specs.Fmt.{decimal};
 ghost use Rattle.surf_auto.specs.Sync.{box_of, universe};
 ghost use Rattle.surf_auto.specs.Lines.{is_table};
+ghost use Rattle.surf_rle.specs.Sources.{Eight, Plain};
 ghost use Rattle.surf_text.specs.Bytes.{ended, rows_of, spaced};
 ghost use Rattle.surf_top.specs.Answers.{IsQuiet};
 ghost use Rattle.surf_top.specs.Commands.{EndsJob};
@@ -17,7 +18,8 @@ use crate::status::{ended, refused_source};
 use std::alloc::Global;
 use surf_auto::{Automaton, Local, is_table};
 use surf_base::{Outbox, Sink, WriteFault};
-use surf_rle::read_rle;
+use surf_life::{MooreLocal, advance_moore};
+use surf_rle::{Pattern, read_rle};
 use surf_table::read_table;
 
 // Writes the rows of states.
@@ -45,14 +47,34 @@ fn show<L: Local + Drop, K: Sink>(
     times: u32,
     out: &mut K,
 ) -> Status
-    ensures ends { let grid = box_of automaton.kind automaton.wrap automaton.width automaton.height in
-        let U = universe grid (L.rule automaton.local) automaton.edge automaton.cells.items in
-        (input : List ℕ) → source_of 0 input ≡ Ok U
+    ensures ends { let a = automaton in let grid = box_of a.kind a.wrap a.width a.height in
+        let U = universe grid (L.rule a.local) a.edge a.cells.items in
+        (input : List ℕ) → source_of 0 input ≡ Ok (Plain U)
         → EndsJob (Step times) input (writes K.written K.faults out.old out.new) result }
     ensures quiet { IsQuiet result → out.new ≡ out.old }
 {
     let mut automaton = automaton;
     if automaton.advance(alloc, times).is_err() {
+        return Status::NoMemory;
+    }
+    ended(write_rows(&automaton.cells, automaton.width, automaton.height, out))
+}
+
+// The same where eight neighbours are counted.
+fn show_eight<K: Sink>(
+    alloc: Global,
+    automaton: Automaton<MooreLocal>,
+    times: u32,
+    out: &mut K,
+) -> Status
+    requires dead { automaton.edge ≡ 0 }
+    ensures ends { let a = automaton in let grid = box_of a.kind a.wrap a.width a.height in
+        (input : List ℕ) → source_of 0 input ≡ Ok (Eight a.local grid a.cells.items)
+        → EndsJob (Step times) input (writes K.written K.faults out.old out.new) result }
+    ensures quiet { IsQuiet result → out.new ≡ out.old }
+{
+    let mut automaton = automaton;
+    if advance_moore(alloc, &mut automaton, times).is_err() {
         return Status::NoMemory;
     }
     ended(write_rows(&automaton.cells, automaton.width, automaton.height, out))
@@ -82,9 +104,13 @@ fn show_pattern<K: Sink>(alloc: Global, input: Vec<u8>, times: u32, out: &mut K)
     ensures quiet { IsQuiet result → out.new ≡ out.old }
 {
     match read_rle(alloc, &input, 0) {
-        Ok(automaton) => {
+        Ok(Pattern::Count(automaton)) => {
             drop(input);
             show(alloc, automaton, times, out)
+        }
+        Ok(Pattern::Moore(automaton)) => {
+            drop(input);
+            show_eight(alloc, automaton, times, out)
         }
         Err(error) => refused_source(error),
     }

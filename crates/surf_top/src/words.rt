@@ -107,7 +107,6 @@ fn words_of_source(error: &SourceError) -> (&'static [u8], Tail<'static>)
     match error {
         SourceError::BadHeader(line) => (b"bad-header", Tail::Line(*line)),
         SourceError::RuleForm(line) => (b"rule-form", Tail::Line(*line)),
-        SourceError::Moore(line) => (b"moore", Tail::Line(*line)),
         SourceError::TorusSize(line) => (b"torus-size", Tail::Line(*line)),
         SourceError::EmptyGrid => (b"empty-grid", Tail::Nothing),
         SourceError::GridTooLarge(count) => (b"grid-too-large", Tail::Number(*count)),

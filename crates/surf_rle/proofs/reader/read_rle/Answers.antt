@@ -1,12 +1,11 @@
 use Rattle.std.proofs.Common.{◌≡◌, Some, Ok, Err, IfOk, IfErr, Result, ap, sym, subst, ◌∙◌}
 use Rattle.surf_text.specs.Bytes.{lines_of}
 use Rattle.surf_text.specs.Cursors.{Kept}
-use Rattle.surf_auto.specs.Counts.{count_rule}
-use Rattle.surf_auto.specs.Sync.{Universe, box_of, universe}
 use Rattle.surf_auto.specs.declared.error.SourceError.{SourceError}
 use Rattle.surf_auto.specs.declared.error.SourceError.TheVariants.{BadHeader}
 use Rattle.surf_rle.specs.Rle.{Refuses, if_header, rle_of}
 use Rattle.surf_rle.specs.Said.{header_by}
+use Rattle.surf_rle.specs.Sources.{Source, source_by}
 use Rattle.surf_rle.proofs.HeaderLines.{text_found, text_missing}
 use Rattle.surf_rle.proofs.reader.read_rle.Goals as goal
 
@@ -29,7 +28,7 @@ returns-clause-ok c =
     let same : rle_of c.args.margin c.args.bytes.now ≡ if_header c.args.margin k.number (Some (header_by c.in-Some-read_header.header)) k.behind =
     text_found c.args.margin c.args.bytes.now c.new-lines.result k c.new-lines.ensures c.in-Some.ensures.line
     ∙ ap (λ h. if_header c.args.margin k.number h k.behind) c.in-Some-read_header.ensures in
-    subst (λ (v : Result Universe SourceError). IfOk c.read_pattern.result (λ a. v ≡ Ok (universe (box_of a.kind a.wrap a.width a.height) (count_rule a.local) a.edge a.cells.items))) (sym same) c.read_pattern.ensures.ok
+    subst (λ (v : Result Source SourceError). IfOk c.read_pattern.result (λ p. v ≡ Ok (source_by p))) (sym same) c.read_pattern.ensures.ok
 
 pub returns-clause-refused : goal.returns-clause-refused
 returns-clause-refused c =
@@ -38,4 +37,4 @@ returns-clause-refused c =
     let same : rle_of c.args.margin c.args.bytes.now ≡ if_header c.args.margin k.number (Some (header_by c.in-Some-read_header.header)) k.behind =
     text_found c.args.margin c.args.bytes.now c.new-lines.result k c.new-lines.ensures c.in-Some.ensures.line
     ∙ ap (λ h. if_header c.args.margin k.number h k.behind) c.in-Some-read_header.ensures in
-    subst (λ (v : Result Universe SourceError). IfErr c.read_pattern.result (λ f. Refuses v f)) (sym same) c.read_pattern.ensures.refused
+    subst (λ (v : Result Source SourceError). IfErr c.read_pattern.result (λ f. Refuses v f)) (sym same) c.read_pattern.ensures.refused
