@@ -10,7 +10,7 @@ use Rattle.surf_world.proofs.Renamed.{after_renamed}
 use Rattle.surf_sync.specs.Codes.{Mark}
 use Rattle.surf_sync.specs.Codes.Mark.{Frame}
 use Rattle.surf_sync.specs.Spelling.{Showing, shown_at}
-use Rattle.surf_colony.specs.Generations.{changed, generation, observed, state_of}
+use Rattle.surf_trace.specs.Generations.{changed, generation, observed, state_of}
 use Rattle.surf_colony.proofs.Plans.{Plan, IsPlan, IsColony, Tells, shown_after}
 use Rattle.surf_colony.proofs.Codes.{Clock}
 use Rattle.surf_colony.proofs.Synchrony.{Synchrony, reads_of, kept, ticked}

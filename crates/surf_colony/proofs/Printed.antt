@@ -18,7 +18,7 @@ use Rattle.surf_sync.specs.Codes.Mark.{Frame, Cell}
 use Rattle.surf_sync.specs.Spelling.{IsSmall, Showing, spell, shown_by, shown_at}
 use Rattle.surf_sync.proofs.Spelling.{IsSmallMark, code_read, frame_mute, spell_injective}
 use Rattle.surf_colony.specs.Colonies.{framed, onto, back, in_box, colony_of, printed, StartsWithin}
-use Rattle.surf_colony.specs.Generations.{generation, observed}
+use Rattle.surf_trace.specs.Generations.{generation, observed}
 use Rattle.surf_colony.specs.InStep.{EndsBy, IsLast, place_of, final, KeepsInStep}
 use Rattle.surf_colony.proofs.Plans.{IsColony, IsWithin, Tells, Synchronous, protocol_of, shown_after}
 use Rattle.surf_colony.proofs.Codes.{Clock, code_at}

@@ -10,7 +10,7 @@ use Rattle.surf_world.specs.Systems.{Rule, Surface, Fits, FitsSecond, Enabled, a
 use Rattle.surf_world.specs.Renamings.{renamed_rule, renamed}
 use Rattle.surf_world.proofs.Renamed.{after_renamed}
 use Rattle.surf_sync.specs.Spelling.{Showing, shown_at}
-use Rattle.surf_colony.specs.Generations.{changed, generation}
+use Rattle.surf_trace.specs.Generations.{changed, generation}
 
 module _ {N M : Type 0} (f : N → M) (S : Surface N) where
   shown_option : (show : M → Option Showing) (o : Option N) → shown_at show (option_map f o) ≡ shown_at (λ m. show (f m)) o

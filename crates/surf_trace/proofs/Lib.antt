@@ -3,3 +3,8 @@ pub mod SplitLines
 pub mod Words
 pub mod Decimals
 pub mod ReadBack
+pub mod Watched
+pub mod Sighted
+pub mod Followed
+pub mod Told
+pub mod Mapped
