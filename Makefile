@@ -8,7 +8,7 @@ run:
 test:
 	@bash .ci/run
 
-# runs each manifest for ten events, evaluates circuits, draws one as a surface, and takes the automata a few steps on
+# runs each manifest for ten events, evaluates circuits, draws one as a surface, takes the automata a few steps on, and lets the cells of one take three steps in their own time
 examples: build
 	@for file in examples/*.txt; do echo "$$file"; crates/surf/out/surf run 1 10 < "$$file" || exit 1; done
 	@echo examples/full_adder.blif; crates/surf/out/surf eval 110 < examples/full_adder.blif
@@ -16,6 +16,7 @@ examples: build
 	@echo examples/inverter.blif; crates/surf/out/surf circuit < examples/inverter.blif
 	@echo examples/growth.rle; crates/surf/out/surf step 2 < examples/growth.rle
 	@echo examples/signal.table; crates/surf/out/surf step 3 < examples/signal.table
+	@crates/surf/out/surf automaton 0 3 < examples/signal.table | crates/surf/out/surf run 1 1000 | tail -n 6
 
 # times the built program on surfaces that the script generates
 bench: build

@@ -27,8 +27,9 @@ use Rattle.surf_colony.proofs.Synchrony.{Synchrony, reads_of, kept}
 use Rattle.surf_colony.proofs.Boards.{board_of, box_from, place-site, next_of, cell_in_box, cell_at, is_board, is_within, count_cells, some_cell_of, place_within}
 use Rattle.surf_colony.proofs.Built.{plan_of, box_is, framed_in, unframed_in, framed_unframed, frame_next, cell_place, box_neighbour, same_sync, plan_ok, colony_ok}
 use Rattle.surf_colony.proofs.Runs.{none_yet, starts, came, synchronous}
-use Rattle.surf_colony.proofs.Texts.{shown_renamed, generation_renamed, Apart, enabled_back}
-use Rattle.surf_colony.proofs.Observed.{observes, frame_observed, observed_renamed}
+use Rattle.surf_colony.proofs.Texts.{generation_renamed, Apart, enabled_back}
+use Rattle.surf_colony.proofs.Observed.{observes, frame_observed}
+use Rattle.surf_trace.proofs.Renamed.{shown_renamed, observed_renamed}
 
 pub whole : (o : Option ℕ) (n : ℕ) → IsLast o n → WholeBy o n
 whole None n h = tt

@@ -6,8 +6,11 @@ pub mod Shown
 pub mod Ends
 pub mod Replayed
 pub mod Valued
-pub mod Stepped
-pub mod Settings
+pub mod Automata
 pub mod Surfaces
 pub mod LegendsRead
 pub mod Carried
+pub mod Faults
+pub mod Finals
+pub mod Observed
+pub mod ReadInStep

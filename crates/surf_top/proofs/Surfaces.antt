@@ -1,10 +1,9 @@
 -- The text of a circuit's surface, and what the grammar reads in it.
-use Rattle.std.proofs.Common.{ℕ, ◌≡◌, Bool, true, List, [], ◌∷◌, Some, refl, sym, ◌∙◌, ap, subst}
+use Rattle.std.proofs.Common.{ℕ, ◌≡◌, true, List, [], ◌∷◌, Some, refl, subst}
 use Rattle.std.specs.List.{list_all}
 use Rattle.std.specs.Str.{bytes_eq}
 use Rattle.std.proofs.lemmas.Bool.{and_parts}
-use Rattle.surf_text.specs.Bytes.{is_word}
-use Rattle.surf_logic.specs.Equations.{PartsOf, Numbered}
+use Rattle.surf_logic.specs.Equations.{Numbered}
 use Rattle.surf_logic.specs.Answers.{EvalOf}
 use Rattle.surf_logic.proofs.NamedTexts.{values}
 use Rattle.surf_blif.specs.Blifs.{IsRead, parts_of}

@@ -6,9 +6,10 @@ use Rattle.surf_base.specs.Known.{AppendsFront}
 use Rattle.surf_manifest.specs.Grammar.{manifest_of}
 use Rattle.surf_top.specs.declared.status.Status.{Status}
 use Rattle.surf_top.specs.declared.status.Status.TheVariants.{Done, Refused, Usage, NotEnabled, ReadFault, WriteFault, NoMemory, TooLong}
-use Rattle.surf_top.specs.Jobs.{Job, Run, Format, Eval, Circuit, Set, Step, Replay}
+use Rattle.surf_top.specs.Jobs.{Job, Run, Circuit, Automaton}
 use Rattle.surf_top.specs.Outputs.{IsText, HasText, IsRefused, FindsBad, Shows}
 use Rattle.surf_blif.specs.Blifs.{parts_of}
+use Rattle.surf_top.specs.Automata.{HoldsColony}
 use Rattle.surf_top.specs.Compiled.{HoldsCircuit}
 use Rattle.surf_top.specs.Runs.{ShowsRun}
 use Rattle.surf_top.specs.Writes.{Writes}
@@ -98,6 +99,15 @@ abbrev pub PrintsCircuit : Option Job → Ends → Status → Type 0
 PrintsCircuit None e status = Unit {0}
 PrintsCircuit (Some Circuit) e status = PrintsWhat e status (λ input text. HoldsCircuit (parts_of input) text)
 PrintsCircuit (Some job) e status = Unit {0}
+
+-- In what `automaton` writes the grammar reads a manifest. In every run of it, in whatever order its
+-- events come, a cell of generation k shows the synchronous state of k of the automaton that was read,
+-- and neighbours are within one generation. With a last generation each run ends there.
+abbrev pub PrintsColony : Option Job → Ends → Status → Type 0
+PrintsColony None e status = Unit {0}
+PrintsColony (Some (Automaton margin last)) e status =
+    PrintsWhat e status (λ input text. HoldsColony margin last input text)
+PrintsColony (Some job) e status = Unit {0}
 
 -- the answers that leave the output as it was
 abbrev pub IsQuiet : Status → Type 0

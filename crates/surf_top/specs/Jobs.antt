@@ -1,5 +1,5 @@
 -- The commands that are carried out.
-use Rattle.std.specs.Prelude.{ℕ, Bool, ◌==◌, List, map, Option, Some, None}
+use Rattle.std.specs.Prelude.{ℕ, ◌≤◌, Bool, ◌==◌, List, map, Option, Some, None, IfSome}
 use Rattle.surf_words.specs.Words.{Spoken, words_of}
 use Rattle.surf_words.specs.Words as words
 use Rattle.surf_top.specs.declared.job.Job as declared
@@ -12,8 +12,11 @@ pub data Job : Type 0 where
   Eval : List Bool → Job
   Circuit : Job
   Set : List Bool → Job
+  Automaton : ℕ → Option ℕ → Job
   Step : ℕ → Job
   Replay : Job
+  Outputs : Job
+  Observe : ℕ → Job
 
 -- the bits that a word of 0 and 1 spells
 abbrev pub bits_of : List ℕ → List Bool
@@ -26,8 +29,16 @@ meant variants.Format = Format
 meant (variants.Eval bits) = Eval (bits_of bits.now)
 meant variants.Circuit = Circuit
 meant (variants.Set bits) = Set (bits_of bits.now)
+meant (variants.Automaton margin last) = Automaton margin last
 meant (variants.Step times) = Step times
 meant variants.Replay = Replay
+meant variants.Outputs = Outputs
+meant (variants.Observe k) = Observe k
+
+-- the margin of an automaton and its last generation, if one is given, are within their limits
+abbrev pub IsWithin : Job → Type 0
+IsWithin (Automaton margin last) = (margin ≤ 1000) × IfSome last (λ n. (1 ≤ n) × (n ≤ 1000000))
+IsWithin job = Unit {0}
 
 abbrev pub job_for : Option Spoken → Option Job
 job_for None = None
@@ -36,11 +47,11 @@ job_for (Some words.Format) = Some Format
 job_for (Some (words.Eval bits)) = Some (Eval (bits_of bits))
 job_for (Some words.Circuit) = Some Circuit
 job_for (Some (words.Set bits)) = Some (Set (bits_of bits))
-job_for (Some (words.Automaton margin)) = None
+job_for (Some (words.Automaton margin last)) = Some (Automaton margin last)
 job_for (Some (words.Step times)) = Some (Step times)
 job_for (Some words.Replay) = Some Replay
-job_for (Some words.Outputs) = None
-job_for (Some (words.Observe k)) = None
+job_for (Some words.Outputs) = Some Outputs
+job_for (Some (words.Observe k)) = Some (Observe k)
 job_for (Some (words.DemoAdder n)) = None
 job_for (Some (words.DemoVote n)) = None
 

@@ -1,6 +1,8 @@
-ghost use Rattle.std.specs.Prelude.{◌≡◌, Some, None, MatchOption, map, string_bytes};
+// The commands that are carried out.
+ghost use Rattle.std.specs.Prelude.{◌≡◌, Some, None, IfSome, MatchOption, map, string_bytes};
+ghost use Rattle.surf_words.specs.Words as words;
 ghost use Rattle.surf_words.specs.Words.{spoken};
-ghost use Rattle.surf_top.specs.Jobs.{job_for, job_of, meant};
+ghost use Rattle.surf_top.specs.Jobs.{IsWithin, job_for, job_of, meant};
 
 use surf_words::{Command, read_words};
 
@@ -18,15 +20,24 @@ pub enum Job<'a> {
     Circuit,
     /// A manifest whose inputs are set to the bits that a word spells.
     Set { bits: &'a [u8] },
+    /// The manifest of an automaton's surface, whose runs end after the last generation, if one is
+    /// given.
+    Automaton { margin: u32, last: Option<u32> },
     /// The states of an automaton's cells after so many steps.
     Step { times: u32 },
     /// Whether a trace is a run of the manifest before it.
     Replay,
+    /// What stands at the outputs after a trace.
+    Outputs,
+    /// The states of each cell's generation `k`, read off a trace.
+    Observe { k: u64 },
 }
 
 fn job_for<'a>(command: &Command<'a>) -> Option<Job<'a>>
-    ensures { MatchOption result (job_for (Some (spoken command.now)) ≡ None)
+    requires within { words.IsWithin (spoken command.now) }
+    ensures job { MatchOption result (job_for (Some (spoken command.now)) ≡ None)
         (λ j. job_for (Some (spoken command.now)) ≡ Some (meant j)) }
+    ensures within { IfSome result (λ j. IsWithin (meant j)) }
 {
     match command {
         Command::Run { seed, count } => Some(Job::Run {
@@ -37,11 +48,14 @@ fn job_for<'a>(command: &Command<'a>) -> Option<Job<'a>>
         Command::Eval { bits } => Some(Job::Eval { bits: *bits }),
         Command::Circuit => Some(Job::Circuit),
         Command::Set { bits } => Some(Job::Set { bits: *bits }),
-        Command::Automaton { .. } => None,
+        Command::Automaton { margin, last } => Some(Job::Automaton {
+            margin: *margin,
+            last: *last,
+        }),
         Command::Step { times } => Some(Job::Step { times: *times }),
         Command::Replay => Some(Job::Replay),
-        Command::Outputs => None,
-        Command::Observe { .. } => None,
+        Command::Outputs => Some(Job::Outputs),
+        Command::Observe { k } => Some(Job::Observe { k: *k }),
         Command::DemoAdder { .. } => None,
         Command::DemoVote { .. } => None,
     }
@@ -49,8 +63,9 @@ fn job_for<'a>(command: &Command<'a>) -> Option<Job<'a>>
 
 /// The job that the words ask for, if they spell a command that is carried out.
 pub fn read_job(words: &[String]) -> Option<Job<'_>>
-    ensures { MatchOption result (job_of (map string_bytes words.now) ≡ None)
+    ensures job { MatchOption result (job_of (map string_bytes words.now) ≡ None)
         (λ j. job_of (map string_bytes words.now) ≡ Some (meant j)) }
+    ensures within { IfSome result (λ j. IsWithin (meant j)) }
 {
     match read_words(words) {
         Ok(command) => job_for(&command),

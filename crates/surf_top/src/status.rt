@@ -1,3 +1,4 @@
+// Why an input is refused, and how a call of the program ended.
 ghost use Rattle.std.specs.Prelude.{◌≡◌};
 ghost use Rattle.surf_top.specs.Commands.{answer_to, answer_to_bits, answer_to_blif, answer_to_legend, answer_to_set, answer_to_source, answer_to_trace, status_of};
 
@@ -16,7 +17,11 @@ use surf_trace::TraceError;
 pub enum Refusal {
     Manifest(ManifestError),
     Legend(LegendError),
+    /// This is the site of the first output outside the surface.
+    LegendSite(Site),
     Trace(TraceError),
+    /// Some name is neither a cell's nor the frame's.
+    NotCells,
     Blif(BlifError),
     /// There are so many bits, and the circuit has so many inputs.
     Bits { found: u64, wanted: u64 },

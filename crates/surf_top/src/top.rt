@@ -1,14 +1,18 @@
+// The program as one call.
 ghost use Rattle.std.specs.Prelude.{◌≡◌, ◌≤◌, length, map, string_bytes};
-ghost use Rattle.surf_top.specs.Answers.{HasCauses, IsComplete, IsQuiet, PrintsCircuit, PrintsRun, ends};
+ghost use Rattle.surf_top.specs.Answers.{HasCauses, IsComplete, IsQuiet, PrintsCircuit, PrintsColony, PrintsRun, ends};
 ghost use Rattle.surf_top.specs.Commands.{EndsJob};
 ghost use Rattle.surf_top.specs.Notes.{Notes, note_of};
-ghost use Rattle.surf_top.specs.Jobs.{job_of, meant};
+ghost use Rattle.surf_top.specs.Jobs.{IsWithin, job_of, meant};
 ghost use Rattle.surf_top.specs.Writes.{writes};
 
 use crate::canonical::format;
+use crate::colonies::compile_source;
 use crate::compiling::compile_circuit;
 use crate::evaluating::evaluate;
 use crate::job::read_job;
+use crate::observing::show_observed;
+use crate::outputs::show_finals;
 use crate::reasons::note;
 use crate::replaying::check_trace;
 use crate::run::run;
@@ -22,7 +26,8 @@ use surf_base::{ReadAllError, Sink, Source, read_all};
 const LIMIT: u64 = 268_435_456;
 
 fn carry_out<K: Sink>(alloc: Global, job: &Job<'_>, input: Vec<u8>, out: &mut K) -> Status
-    requires { length input.items ≤ 268435456 }
+    requires small { length input.items ≤ 268435456 }
+    requires within { IsWithin (meant job.now) }
     ensures ends { EndsJob (meant job.now) input.items
         (writes K.written K.faults out.old out.new) result }
     ensures quiet { IsQuiet result → out.new ≡ out.old }
@@ -33,8 +38,11 @@ fn carry_out<K: Sink>(alloc: Global, job: &Job<'_>, input: Vec<u8>, out: &mut K)
         Job::Eval { bits } => evaluate(alloc, input, *bits, out),
         Job::Circuit => compile_circuit(alloc, input, out),
         Job::Set { bits } => set(alloc, input, *bits, out),
+        Job::Automaton { margin, last } => compile_source(alloc, input, *margin, *last, out),
         Job::Step { times } => show_generation(alloc, input, *times, out),
         Job::Replay => check_trace(alloc, input, out),
+        Job::Outputs => show_finals(alloc, input, out),
+        Job::Observe { k } => show_observed(alloc, input, *k, out),
     }
 }
 
@@ -81,6 +89,9 @@ pub fn surf<S: Source, K: Sink, N: Sink>(
         (ends S.left S.faults source.old source.new (writes K.written K.faults out.old out.new))
         result }
     ensures circuits { PrintsCircuit (job_of (map string_bytes words.now))
+        (ends S.left S.faults source.old source.new (writes K.written K.faults out.old out.new))
+        result }
+    ensures automata { PrintsColony (job_of (map string_bytes words.now))
         (ends S.left S.faults source.old source.new (writes K.written K.faults out.old out.new))
         result }
     ensures quiet { IsQuiet result → out.new ≡ out.old }

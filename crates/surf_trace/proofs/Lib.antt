@@ -8,3 +8,4 @@ pub mod Sighted
 pub mod Followed
 pub mod Told
 pub mod Mapped
+pub mod Renamed

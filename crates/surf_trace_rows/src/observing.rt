@@ -6,13 +6,7 @@ use surf_manifest::read_manifest;
 use surf_trace::{ObserveError, observe, read_trace};
 
 // The states that are observed in row-major order, `-` where there is none, or why there are none.
-fn observed(
-    alloc: Global,
-    rules: &str,
-    rows: &str,
-    events: &str,
-    k: u64,
-) -> Result<String, Fail> {
+fn observed(alloc: Global, rules: &str, rows: &str, events: &str, k: u64) -> Result<String, Fail> {
     let text = manifest(alloc, "", rules, rows)?;
     if text.len() > 4096 {
         Err::<(), &str>("a long text")?;
@@ -57,7 +51,7 @@ const EVENTS: &str = "\
     1 0 1 1 0 1\n2 1 1 1 2 1\n3 2 1 1 1 0\n4 3 1 1 1 2\n\
     5 4 1 1 0 1\n6 5 2 1 1 1\n7 6 2 1 3 1\n";
 
-// One site that changes alone: the frame, cells, and the frame between.
+// One site that changes alone: cells, the frame between, and cells again.
 const ALONE: &str = "\
     5_0_0_5_0_0 -> 6_1_0_5_0_0\n\
     6_1_0_5_0_0 -> 7_1_0_6_1_0\n\
@@ -65,28 +59,45 @@ const ALONE: &str = "\
     E_0 -> 8_2_0_7_0_0\n\
     8_2_0_7_0_0 -> 9_0_0_8_0_0\n";
 
-const TURNS: &str = "1 0 0 0\n2 1 0 0\n3 2 0 0\n4 3 0 0\n5 4 0 0\n";
+// The rules, the rows and the events of a run.
+fn run(number: usize) -> (&'static str, &'static str, &'static str) {
+    match number {
+        0 => (RULES, ROWS, EVENTS),
+        1 => (
+            ALONE,
+            "5_0_0_5_0_0\n",
+            "1 0 0 0\n2 1 0 0\n3 2 0 0\n4 3 0 0\n5 4 0 0\n",
+        ),
+        2 => (ALONE, "E_0\n", "1 3 0 0\n2 4 0 0\n"),
+        3 => (ALONE, "5_0_0_5_0_0\n", "1 1 0 0\n"),
+        4 => (ALONE, "5_0_0_5_0_0\n", "1 0 0 0\n2 1 0 0\n3 3 0 0\n"),
+        5 => (ALONE, "A\n", ""),
+        6 => ("(0) E_0 -> 5_0_0_5_0\n", "5_0_0_5_0_0\n", ""),
+        _ => ("A -> A\n", "5_0_0_5_0_0\n", "1 1 0 0\n"),
+    }
+}
 
 #[test]
 fn states_are_observed(rt: HostRuntime) -> Result<(), Fail> {
     let alloc = rt.alloc();
-    let cases: [(&str, &str, &str, u64, &str); 14] = [
-        (RULES, ROWS, EVENTS, 0, "- - - - - - 1 1 0 - - - - - - "),
-        (RULES, ROWS, EVENTS, 1, "- - - - - - 0 - - - - - - - - "),
-        (RULES, ROWS, EVENTS, 2, "- - - - - - - - - - - - - - - "),
-        (ALONE, "5_0_0_5_0_0\n", TURNS, 0, "5 "),
-        (ALONE, "5_0_0_5_0_0\n", TURNS, 1, "6 "),
-        (ALONE, "5_0_0_5_0_0\n", TURNS, 2, "9 "),
-        (ALONE, "5_0_0_5_0_0\n", TURNS, 18446744073709551615, "- "),
-        (ALONE, "E_0\n", "1 3 0 0\n2 4 0 0\n", 1, "- "),
-        (ALONE, "E_0\n", "1 3 0 0\n2 4 0 0\n", 0, "- "),
-        (ALONE, "5_0_0_5_0_0\n", "1 1 0 0\n", 0, "event 1"),
-        (ALONE, "5_0_0_5_0_0\n", "1 0 0 0\n2 1 0 0\n3 3 0 0\n", 0, "event 3"),
-        (ALONE, "A\n", "", 0, "not-cells"),
-        ("5_0_0_5_0_0 -> E_0\n(0) E_0 -> 5_0_0_5_0\n", "5_0_0_5_0_0\n", "", 0, "not-cells"),
-        ("A -> A\n", "5_0_0_5_0_0\n", "1 1 0 0\n", 0, "not-cells"),
+    let cases: [(usize, u64, &str); 14] = [
+        (0, 0, "- - - - - - 1 1 0 - - - - - - "),
+        (0, 1, "- - - - - - 0 - - - - - - - - "),
+        (0, 2, "- - - - - - - - - - - - - - - "),
+        (1, 0, "5 "),
+        (1, 1, "6 "),
+        (1, 2, "9 "),
+        (1, u64::MAX, "- "),
+        (2, 0, "- "),
+        (2, 1, "- "),
+        (3, 0, "event 1"),
+        (4, 0, "event 3"),
+        (5, 0, "not-cells"),
+        (6, 0, "not-cells"),
+        (7, 0, "not-cells"),
     ];
-    for (rules, rows, events, k, wanted) in &cases {
+    for (number, k, wanted) in &cases {
+        let (rules, rows, events) = run(*number);
         let said = observed(alloc, rules, rows, events, *k)?;
         assert!(rt; said.as_str() == *wanted);
     }

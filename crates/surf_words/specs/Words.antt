@@ -1,5 +1,5 @@
 -- The commands, and the words that spell them.
-use Rattle.std.specs.Prelude.{ℕ, Bool, ◌&&◌, ◌||◌, ◌==◌, nat_le, List, [], ◌∷◌, codes, Option, Some, None, option_and_then, if◌then◌else◌}
+use Rattle.std.specs.Prelude.{ℕ, ◌≤◌, Bool, ◌&&◌, ◌||◌, ◌==◌, nat_le, List, [], ◌∷◌, codes, Option, Some, None, IfSome, option_and_then, if◌then◌else◌}
 use Rattle.std.specs.Option.{option_map}
 use Rattle.std.specs.List.{list_all}
 use Rattle.std.specs.Str.{bytes_eq}
@@ -14,7 +14,7 @@ pub data Spoken : Type 0 where
   Eval : List ℕ → Spoken
   Circuit : Spoken
   Set : List ℕ → Spoken
-  Automaton : ℕ → Spoken
+  Automaton : ℕ → Option ℕ → Spoken
   Step : ℕ → Spoken
   Replay : Spoken
   Outputs : Spoken
@@ -29,13 +29,18 @@ spoken variants.Format = Format
 spoken (variants.Eval bits) = Eval bits.now
 spoken variants.Circuit = Circuit
 spoken (variants.Set bits) = Set bits.now
-spoken (variants.Automaton margin) = Automaton margin
+spoken (variants.Automaton margin last) = Automaton margin last
 spoken (variants.Step times) = Step times
 spoken variants.Replay = Replay
 spoken variants.Outputs = Outputs
 spoken (variants.Observe k) = Observe k
 spoken (variants.DemoAdder n) = DemoAdder n
 spoken (variants.DemoVote n) = DemoVote n
+
+-- the margin of an automaton and its last generation, if one is given, are within their limits
+abbrev pub IsWithin : Spoken → Type 0
+IsWithin (Automaton margin last) = (margin ≤ 1000) × IfSome last (λ n. (1 ≤ n) × (n ≤ 1000000))
+IsWithin other = Unit {0}
 
 -- BITS: a word of 0 and 1, which may be empty
 abbrev pub is_bit : ℕ → Bool
@@ -63,7 +68,7 @@ abbrev pub two_words : List ℕ → List ℕ → Option Spoken
 two_words w a =
     if bytes_eq w (codes "eval") then option_map Eval (bits_of a)
     else (if bytes_eq w (codes "set") then option_map Set (bits_of a)
-    else (if bytes_eq w (codes "automaton") then option_map Automaton (number_of 0 1000 a)
+    else (if bytes_eq w (codes "automaton") then option_map (λ m. Automaton m None) (number_of 0 1000 a)
     else (if bytes_eq w (codes "step") then option_map Step (number_of 0 1000000 a)
     else (if bytes_eq w (codes "observe") then option_map Observe (decimal_of a)
     else None))))
@@ -77,11 +82,17 @@ demo_words w a =
 abbrev pub run_words : List ℕ → List ℕ → Option Spoken
 run_words seed count = option_and_then (λ s. option_map (λ n. Run s n) (decimal_of count)) (decimal_of seed)
 
+abbrev pub automaton_words : List ℕ → List ℕ → Option Spoken
+automaton_words margin last =
+    option_and_then (λ m. option_map (λ n. Automaton m (Some n)) (number_of 1 1000000 last))
+    (number_of 0 1000 margin)
+
 abbrev pub three_words : List ℕ → List ℕ → List ℕ → Option Spoken
 three_words w a b =
     if bytes_eq w (codes "run") then run_words a b
+    else (if bytes_eq w (codes "automaton") then automaton_words a b
     else (if bytes_eq w (codes "demo") then demo_words a b
-    else None)
+    else None))
 
 -- the command that the words spell, if they are in the table
 abbrev pub words_of : List (List ℕ) → Option Spoken

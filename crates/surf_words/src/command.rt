@@ -12,8 +12,10 @@ pub enum Command<'a> {
     Circuit,
     /// `set BITS`: a circuit's manifest with its inputs set.
     Set { bits: &'a [u8] },
-    /// `automaton MARGIN`: the manifest of a cellular automaton. The margin is at most 1,000.
-    Automaton { margin: u32 },
+    /// `automaton MARGIN`, `automaton MARGIN LAST`: the manifest of a cellular automaton, whose runs
+    /// end after the last generation where one is given. The margin is at most 1,000, the last
+    /// generation from 1 to 1,000,000.
+    Automaton { margin: u32, last: Option<u32> },
     /// `step N`: a generation of an automaton, at most the 1,000,000th.
     Step { times: u32 },
     /// `replay`: whether a trace is a run.

@@ -1,8 +1,9 @@
-ghost use Rattle.std.specs.Prelude.{◌≡◌, ◌<◌, ◌^◌, None, Some, MatchResult, OnErr, map, string_bytes, option_and_then};
+// The command that words spell.
+ghost use Rattle.std.specs.Prelude.{◌≡◌, ◌<◌, ◌≤◌, ◌^◌, None, Some, IfOk, IfSome, MatchResult, OnErr, map, string_bytes, option_and_then};
 ghost use Rattle.std.specs.Option.{option_map};
 ghost use Rattle.std.specs.List.{list_all};
 ghost use Rattle.surf_base.specs.Decimal.{decimal_of};
-ghost use Rattle.surf_words.specs.Words.{words_of, spoken, one_word, two_words, three_words, demo_words, run_words, bits_of, is_bit, number_of};
+ghost use Rattle.surf_words.specs.Words.{IsWithin, automaton_words, words_of, spoken, one_word, two_words, three_words, demo_words, run_words, bits_of, is_bit, number_of};
 
 use crate::Command;
 use surf_base::read_decimal;
@@ -14,7 +15,10 @@ pub struct UsageError;
 /// The command that the words after the program's name spell. `UsageError` exactly where they are
 /// not in the table.
 pub fn read_words(words: &[String]) -> Result<Command<'_>, UsageError>
-    ensures { MatchResult result (λ c. words_of (map string_bytes words.now) ≡ Some (spoken c)) (λ _. words_of (map string_bytes words.now) ≡ None) }
+    ensures command { MatchResult result
+        (λ c. words_of (map string_bytes words.now) ≡ Some (spoken c))
+        (λ _. words_of (map string_bytes words.now) ≡ None) }
+    ensures within { IfOk result (λ c. IsWithin (spoken c)) }
 {
     let command = match words {
         [word] => one_word(word.as_bytes()),
@@ -28,7 +32,8 @@ pub fn read_words(words: &[String]) -> Result<Command<'_>, UsageError>
 }
 
 fn one_word(word: &[u8]) -> Option<Command<'static>>
-    ensures { option_map spoken result ≡ one_word word.now }
+    ensures command { option_map spoken result ≡ one_word word.now }
+    ensures within { IfSome result (λ c. IsWithin (spoken c)) }
 {
     if word == b"format".as_slice() {
         return Some(Command::Format);
@@ -46,7 +51,8 @@ fn one_word(word: &[u8]) -> Option<Command<'static>>
 }
 
 fn two_words<'a>(word: &[u8], value: &'a [u8]) -> Option<Command<'a>>
-    ensures { option_map spoken result ≡ two_words word.now value.now }
+    ensures command { option_map spoken result ≡ two_words word.now value.now }
+    ensures within { IfSome result (λ c. IsWithin (spoken c)) }
 {
     if word == b"eval".as_slice() {
         return Some(Command::Eval { bits: bits(value)? });
@@ -57,6 +63,7 @@ fn two_words<'a>(word: &[u8], value: &'a [u8]) -> Option<Command<'a>>
     if word == b"automaton".as_slice() {
         return Some(Command::Automaton {
             margin: number(0, 1_000, value)?,
+            last: None,
         });
     }
     if word == b"step".as_slice() {
@@ -73,10 +80,14 @@ fn two_words<'a>(word: &[u8], value: &'a [u8]) -> Option<Command<'a>>
 }
 
 fn three_words(word: &[u8], first: &[u8], second: &[u8]) -> Option<Command<'static>>
-    ensures { option_map spoken result ≡ three_words word.now first.now second.now }
+    ensures command { option_map spoken result ≡ three_words word.now first.now second.now }
+    ensures within { IfSome result (λ c. IsWithin (spoken c)) }
 {
     if word == b"run".as_slice() {
         return run(first, second);
+    }
+    if word == b"automaton".as_slice() {
+        return automaton(first, second);
     }
     if word == b"demo".as_slice() {
         return demo(first, second);
@@ -85,7 +96,8 @@ fn three_words(word: &[u8], first: &[u8], second: &[u8]) -> Option<Command<'stat
 }
 
 fn run(seed: &[u8], count: &[u8]) -> Option<Command<'static>>
-    ensures { option_map spoken result ≡ run_words seed.now count.now }
+    ensures command { option_map spoken result ≡ run_words seed.now count.now }
+    ensures within { IfSome result (λ c. IsWithin (spoken c)) }
 {
     Some(Command::Run {
         seed: read_decimal(seed)?,
@@ -93,8 +105,19 @@ fn run(seed: &[u8], count: &[u8]) -> Option<Command<'static>>
     })
 }
 
+fn automaton(margin: &[u8], last: &[u8]) -> Option<Command<'static>>
+    ensures command { option_map spoken result ≡ automaton_words margin.now last.now }
+    ensures within { IfSome result (λ c. IsWithin (spoken c)) }
+{
+    Some(Command::Automaton {
+        margin: number(0, 1_000, margin)?,
+        last: Some(number(1, 1_000_000, last)?),
+    })
+}
+
 fn demo(word: &[u8], value: &[u8]) -> Option<Command<'static>>
-    ensures { option_map spoken result ≡ demo_words word.now value.now }
+    ensures command { option_map spoken result ≡ demo_words word.now value.now }
+    ensures within { IfSome result (λ c. IsWithin (spoken c)) }
 {
     if word == b"adder".as_slice() {
         return Some(Command::DemoAdder {
@@ -124,7 +147,8 @@ fn are_bits(word: &[u8]) -> bool
 
 // A decimal within bounds.
 fn number(least: u32, most: u32, word: &[u8]) -> Option<u32>
-    ensures { result ≡ number_of least most word.now }
+    ensures number { result ≡ number_of least most word.now }
+    ensures within { IfSome result (λ n. (least ≤ n) × (n ≤ most)) }
 {
     let n = read_decimal(word)?;
     if u64::from(least) <= n && n <= u64::from(most) {

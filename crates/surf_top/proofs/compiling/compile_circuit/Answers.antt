@@ -1,4 +1,4 @@
-use Rattle.std.proofs.Common.{ℕ, ◌≡◌, ◌∙◌, List, Some, sym, subst, ap}
+use Rattle.std.proofs.Common.{ℕ, ◌≡◌, ◌∙◌, List, Some, sym, subst}
 use Rattle.surf_blif.specs.Blifs.{IsRead, parts_of}
 use Rattle.surf_manifest.specs.Numbered.{NamedManifest}
 use Rattle.surf_manifest.specs.WellFormed.{IsWellFormed}

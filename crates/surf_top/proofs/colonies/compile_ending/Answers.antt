@@ -1,0 +1,11 @@
+use Rattle.std.proofs.Common.{◌*◌, Some}
+use Rattle.surf_auto.specs.Sync.{Universe, box_of, universe}
+use Rattle.surf_colony.specs.InStep.{KeepsInStep}
+use Rattle.surf_top.proofs.Automata.{mapped}
+use Rattle.surf_top.proofs.colonies.compile_ending.Goals as goal
+
+pub returns-clause-in_step : goal.returns-clause-in_step
+returns-clause-in_step g c =
+    let a = c.args.automaton.now in
+    let U : Universe = universe (box_of a.kind a.wrap a.width a.height) (g.L.Local.rule a.local) a.edge a.cells.items in
+    mapped c.compile_last.result c.map_err.result (λ m. KeepsInStep U (Some (c.args.last * U.rule.phases)) m.text.system) _ c.map_err.ensures.cases c.map_err.ensures.variant c.compile_last.ensures.in_step

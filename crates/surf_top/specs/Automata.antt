@@ -1,0 +1,47 @@
+-- The surface of the automaton that a text spells, as text.
+use Rattle.std.specs.Prelude.{ℕ, ◌≡◌, ◌*◌, nat_lt, List, [], Option, Some, None, Result, Ok, Err, if◌then◌else◌}
+use Rattle.surf_auto.specs.Locals.{rule_count_in}
+use Rattle.surf_auto.specs.Sync.{Universe}
+use Rattle.surf_auto.specs.declared.error.SourceError.{SourceError}
+use Rattle.surf_auto.specs.declared.error.SourceError.TheVariants.{TooManyRules}
+use Rattle.surf_colony.specs.Colonies.{printed}
+use Rattle.surf_colony.specs.InStep.{KeepsInStep}
+use Rattle.surf_manifest.specs.Grammar.{ManifestText, manifest_of}
+use Rattle.surf_manifest_print.specs.Prints.{print_of}
+use Rattle.surf_top.specs.declared.status.Refusal.{Refusal}
+use Rattle.surf_top.specs.declared.status.Refusal.TheVariants.{Source}
+use Rattle.surf_top.specs.Generations.{source_of}
+
+-- a last generation, if one is given, in phases of the automaton's rule
+abbrev pub in_phases : Universe → Option ℕ → Option ℕ
+in_phases U None = None
+in_phases U (Some last) = Some (last * U.rule.phases)
+
+-- the manifest of the surface on which the automaton's cells keep in step
+abbrev pub colony_manifest : Universe → Option ℕ → ManifestText
+colony_manifest U last =
+    record { options = []; system = printed U (in_phases U last); colormap = None }
+
+abbrev pub colony_text : Universe → Option ℕ → List ℕ
+colony_text U last = print_of (colony_manifest U last) None
+
+-- a text, unless there are more rules than a manifest may have
+abbrev pub unless_many : ℕ → List ℕ → Result (List ℕ) Refusal
+unless_many rules text = if nat_lt 1048576 rules then Err (Source (TooManyRules rules)) else Ok text
+
+-- A last generation, where one is given, multiplies the rules. Without one the source's own limit
+-- holds of them.
+abbrev pub printed_colony : Option ℕ → Result Universe SourceError → Result (List ℕ) Refusal
+printed_colony last (Err e) = Err (Source e)
+printed_colony None (Ok U) = Ok (colony_text U None)
+printed_colony (Some last) (Ok U) =
+    unless_many (rule_count_in last U.rule) (colony_text U (Some last))
+
+-- the grammar reads in the text a manifest, in every run of which the cells of the automaton that
+-- the input spells keep in step
+pub record HoldsColony (margin : ℕ) (last : Option ℕ) (input text : List ℕ) : Type 0 where
+  pub automaton : Universe
+  pub spelled : source_of margin input ≡ Ok automaton
+  pub manifest : ManifestText
+  pub read : manifest_of text ≡ Ok manifest
+  pub in_step : KeepsInStep automaton (in_phases automaton last) manifest.system
