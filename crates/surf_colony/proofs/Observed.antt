@@ -1,21 +1,18 @@
 -- An observer reads the synchronous states, one after another.
 use Rattle.std.specs.Prelude.{if◌then◌else◌, ◌==◌, slice_get}
-use Rattle.std.proofs.Common.{◌≡◌, ℕ, zero, suc, ◌+◌, ◌<◌, ◌≤◌, true, false, List, [], ◌∷◌, map, Option, Some, None, refl, ap, ◌∙◌, inl, inr, arith}
+use Rattle.std.proofs.Common.{◌≡◌, ℕ, zero, suc, ◌+◌, ◌<◌, ◌≤◌, true, false, List, [], ◌∷◌, Option, Some, None, refl, ap, ◌∙◌, inl, inr, arith}
 use Rattle.std.proofs.lemmas.Bool.{cases_eq, eq-eqb, ne_eqb}
 use Rattle.surf_lattice.specs.Grids.{place}
 use Rattle.surf_world.specs.declared.event.Event.{Event}
 use Rattle.surf_world.specs.Systems.{Surface, System, after, IsRun}
-use Rattle.surf_world.specs.Renamings.{renamed}
-use Rattle.surf_world.proofs.Renamed.{after_renamed}
 use Rattle.surf_sync.specs.Codes.{Mark}
 use Rattle.surf_sync.specs.Codes.Mark.{Frame}
 use Rattle.surf_sync.specs.Spelling.{Showing, shown_at}
-use Rattle.surf_colony.specs.Generations.{changed, generation, observed, state_of}
+use Rattle.surf_trace.specs.Generations.{changed, generation, observed, state_of}
 use Rattle.surf_colony.proofs.Plans.{Plan, IsPlan, IsColony, Tells, shown_after}
 use Rattle.surf_colony.proofs.Codes.{Clock}
 use Rattle.surf_colony.proofs.Synchrony.{Synchrony, reads_of, kept, ticked}
 use Rattle.surf_colony.proofs.Runs.{shown_here, changes, changed_small}
-use Rattle.surf_colony.proofs.Texts.{shown_renamed}
 
 observed_now : {N : Type 0} (show : N → Option Showing) (S : Surface N) (c : List N) (es : List Event) (p : ℕ) → observed show S c es p zero ≡ state_of (shown_at show (slice_get c p))
 observed_now show S c [] p = refl
@@ -63,15 +60,3 @@ frame_observed A S show is colony mute c k (e ∷ es) s run p (suc j) out below 
     ap (λ a. if changed a (shown_at show (slice_get (after S.surface c e) p)) == 0 then observed show S.surface (after S.surface c e) es p (suc j) else observed show S.surface (after S.surface c e) es p j) n
     ∙ ap (λ t. if t == 0 then observed show S.surface (after S.surface c e) es p (suc j) else observed show S.surface (after S.surface c e) es p j) (never_changed (shown_at show (slice_get (after S.surface c e) p)))
     ∙ frame_observed A S show is colony mute (after S.surface c e) (ticked A.rule.degree k (place S.surface.grid e.first)) es s' run.1 p (suc j) out below
-
-module _ {N M : Type 0} (f : N → M) (S : Surface N) where
-  pub observed_renamed : (show : M → Option Showing) (c : List N) (es : List Event) (p k : ℕ) → observed show (renamed f S) (map f c) es p k ≡ observed (λ m. show (f m)) S c es p k
-  observed_renamed show c [] p zero = ap state_of (shown_renamed f S show c p)
-  observed_renamed show c [] p (suc k) = refl
-  observed_renamed show c (e ∷ es) p zero = ap state_of (shown_renamed f S show c p)
-  observed_renamed show c (e ∷ es) p (suc k) =
-      ap (λ d. if changed (shown_at show (slice_get (map f c) p)) (shown_at show (slice_get d p)) == 0 then observed show (renamed f S) d es p (suc k) else observed show (renamed f S) d es p k) (after_renamed f S c e)
-      ∙ ap (λ a. if changed a (shown_at show (slice_get (map f (after S c e)) p)) == 0 then observed show (renamed f S) (map f (after S c e)) es p (suc k) else observed show (renamed f S) (map f (after S c e)) es p k) (shown_renamed f S show c p)
-      ∙ ap (λ b. if changed (shown_at (λ m. show (f m)) (slice_get c p)) b == 0 then observed show (renamed f S) (map f (after S c e)) es p (suc k) else observed show (renamed f S) (map f (after S c e)) es p k) (shown_renamed f S show (after S c e) p)
-      ∙ ap (λ u. if changed (shown_at (λ m. show (f m)) (slice_get c p)) (shown_at (λ m. show (f m)) (slice_get (after S c e) p)) == 0 then u else observed show (renamed f S) (map f (after S c e)) es p k) (observed_renamed show (after S c e) es p (suc k))
-      ∙ ap (λ u. if changed (shown_at (λ m. show (f m)) (slice_get c p)) (shown_at (λ m. show (f m)) (slice_get (after S c e) p)) == 0 then observed (λ m. show (f m)) S (after S c e) es p (suc k) else u) (observed_renamed show (after S c e) es p k)

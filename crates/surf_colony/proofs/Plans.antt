@@ -9,7 +9,7 @@ use Rattle.surf_sync.specs.declared.code.Code.{Code}
 use Rattle.surf_sync.specs.Codes.{Protocol, Mark, OpenBy, beside, field_at, IsCode, HoldsReads}
 use Rattle.surf_sync.specs.Codes.Mark.{Frame, Cell}
 use Rattle.surf_sync.specs.Spelling.{Showing, shown_at}
-use Rattle.surf_colony.specs.Generations.{generation}
+use Rattle.surf_trace.specs.Generations.{generation}
 use Rattle.surf_colony.specs.InStep.{EndsBy}
 
 -- the places of a surface, which of them are cells, and the neighbours of a cell in the order of directions

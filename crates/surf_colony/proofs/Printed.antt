@@ -18,7 +18,7 @@ use Rattle.surf_sync.specs.Codes.Mark.{Frame, Cell}
 use Rattle.surf_sync.specs.Spelling.{IsSmall, Showing, spell, shown_by, shown_at}
 use Rattle.surf_sync.proofs.Spelling.{IsSmallMark, code_read, frame_mute, spell_injective}
 use Rattle.surf_colony.specs.Colonies.{framed, onto, back, in_box, colony_of, printed, StartsWithin}
-use Rattle.surf_colony.specs.Generations.{generation, observed}
+use Rattle.surf_trace.specs.Generations.{generation, observed}
 use Rattle.surf_colony.specs.InStep.{EndsBy, IsLast, place_of, final, KeepsInStep}
 use Rattle.surf_colony.proofs.Plans.{IsColony, IsWithin, Tells, Synchronous, protocol_of, shown_after}
 use Rattle.surf_colony.proofs.Codes.{Clock, code_at}
@@ -27,8 +27,9 @@ use Rattle.surf_colony.proofs.Synchrony.{Synchrony, reads_of, kept}
 use Rattle.surf_colony.proofs.Boards.{board_of, box_from, place-site, next_of, cell_in_box, cell_at, is_within, count_cells, some_cell_of, place_within}
 use Rattle.surf_colony.proofs.Built.{plan_of, box_is, framed_in, unframed_in, framed_unframed, frame_next, cell_place, box_neighbour, same_sync, plan_ok, colony_ok}
 use Rattle.surf_colony.proofs.Runs.{none_yet, starts, came, synchronous}
-use Rattle.surf_colony.proofs.Texts.{shown_renamed, generation_renamed, Apart, enabled_back}
-use Rattle.surf_colony.proofs.Observed.{observes, frame_observed, observed_renamed}
+use Rattle.surf_colony.proofs.Texts.{generation_renamed, Apart, enabled_back}
+use Rattle.surf_colony.proofs.Observed.{observes, frame_observed}
+use Rattle.surf_trace.proofs.Renamed.{shown_renamed, observed_renamed}
 
 pub whole : (o : Option ℕ) (n : ℕ) → IsLast o n → WholeBy o n
 whole None n h = tt

@@ -10,7 +10,7 @@ use Rattle.surf_sync.specs.Codes.{Mark, OpenBy, field_by, field_at}
 use Rattle.surf_sync.specs.Codes.Mark.{Cell}
 use Rattle.surf_sync.specs.Spelling.{Showing, shown_at}
 use Rattle.surf_sync.proofs.Numbers.{next_of_field, next_apart}
-use Rattle.surf_colony.specs.Generations.{changed, generation}
+use Rattle.surf_trace.specs.Generations.{changed, generation}
 use Rattle.surf_colony.specs.InStep.{EndsBy}
 use Rattle.surf_colony.proofs.Plans.{Board, Plan, IsPlan, IsColony, Tells, LocalSynchrony, protocol_of, first_code, shown_after, sum_to, cells_to}
 use Rattle.surf_colony.proofs.Ranges.{code_listed}

@@ -10,23 +10,17 @@ use Rattle.surf_world.specs.Systems.{Rule, Surface, Fits, FitsSecond, Enabled, a
 use Rattle.surf_world.specs.Renamings.{renamed_rule, renamed}
 use Rattle.surf_world.proofs.Renamed.{after_renamed}
 use Rattle.surf_sync.specs.Spelling.{Showing, shown_at}
-use Rattle.surf_colony.specs.Generations.{changed, generation}
+use Rattle.surf_trace.specs.Generations.{changed, generation}
+use Rattle.surf_trace.proofs.Renamed.{shown_renamed}
 
 module _ {N M : Type 0} (f : N → M) (S : Surface N) where
-  shown_option : (show : M → Option Showing) (o : Option N) → shown_at show (option_map f o) ≡ shown_at (λ m. show (f m)) o
-  shown_option show None = refl
-  shown_option show (Some m) = refl
-
-  pub shown_renamed : (show : M → Option Showing) (c : List N) (p : ℕ) → shown_at show (slice_get (map f c) p) ≡ shown_at (λ m. show (f m)) (slice_get c p)
-  shown_renamed show c p = ap (shown_at show) (slice_get-map f c p) ∙ shown_option show (slice_get c p)
-
   pub generation_renamed : (show : M → Option Showing) (c : List N) (es : List Event) (p : ℕ) → generation show (renamed f S) (map f c) es p ≡ generation (λ m. show (f m)) S c es p
   generation_renamed show c [] p = refl
   generation_renamed show c (e ∷ es) p =
       ap (λ d. changed (shown_at show (slice_get (map f c) p)) (shown_at show (slice_get d p)) + generation show (renamed f S) d es p) (after_renamed f S c e)
       ∙ ap (λ n. changed (shown_at show (slice_get (map f c) p)) (shown_at show (slice_get (map f (after S c e)) p)) + n) (generation_renamed show (after S c e) es p)
-      ∙ ap (λ a. changed a (shown_at show (slice_get (map f (after S c e)) p)) + generation (λ m. show (f m)) S (after S c e) es p) (shown_renamed show c p)
-      ∙ ap (λ b. changed (shown_at (λ m. show (f m)) (slice_get c p)) b + generation (λ m. show (f m)) S (after S c e) es p) (shown_renamed show (after S c e) p)
+      ∙ ap (λ a. changed a (shown_at show (slice_get (map f (after S c e)) p)) + generation (λ m. show (f m)) S (after S c e) es p) (shown_renamed f S show c p)
+      ∙ ap (λ b. changed (shown_at (λ m. show (f m)) (slice_get c p)) b + generation (λ m. show (f m)) S (after S c e) es p) (shown_renamed f S show (after S c e) p)
 
   -- back, where the names that meet are told apart
   pub record Apart (Good : N → Type 0) : Type 0 where

@@ -8,7 +8,7 @@ use Rattle.surf_auto.specs.Sync.{Universe, phase_sync}
 use Rattle.surf_sync.specs.Codes.{OpenBy, field_by}
 use Rattle.surf_sync.specs.Spelling.{shown_at, shown_by}
 use Rattle.surf_colony.specs.Colonies.{framed, onto, in_box}
-use Rattle.surf_colony.specs.Generations.{generation, observed}
+use Rattle.surf_trace.specs.Generations.{generation, observed}
 
 -- with a last generation a run ends: it has no more than so many events, and exactly so many where
 -- no event may happen

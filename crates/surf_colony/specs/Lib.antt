@@ -1,4 +1,3 @@
-pub mod Generations
 pub mod Colonies
 pub mod InStep
 pub mod Numbers

@@ -8,7 +8,7 @@ use Rattle.surf_pick.specs.Draws.{seeded, words_of}
 use Rattle.surf_sim.specs.Simulations.{Simulation}
 use Rattle.surf_manifest.specs.Grammar.{ManifestText, manifest_of}
 use Rattle.surf_manifest.specs.declared.error.ManifestError.{ManifestError}
-use Rattle.surf_top.specs.Jobs.{Job, Run, Format, Eval, Circuit, Set, Automaton, Step, Replay}
+use Rattle.surf_top.specs.Jobs.{Job, Run, Format, Eval, Circuit, Set, Automaton, Step, Replay, Outputs, Observe}
 use Rattle.surf_world.specs.declared.event.Event.{Event}
 use Rattle.surf_trace.proofs.Runs.{run_not_bad}
 use Rattle.surf_blif.specs.declared.error.BlifError.{BlifError}
@@ -17,12 +17,15 @@ use Rattle.surf_blif.specs.Grammar.{Unsupported, BadLine, BadCover, MixedCover}
 use Rattle.surf_blif.specs.Blifs.{InText, TooLarge, InCircuit, parts_of}
 use Rattle.surf_top.specs.Values.{IsAccepted, HasValues}
 use Rattle.surf_top.specs.declared.status.Refusal.{Refusal}
-use Rattle.surf_top.specs.declared.status.Refusal.TheVariants.{Manifest, Legend, Trace, Blif, Bits, NotInput, Source}
+use Rattle.surf_top.specs.declared.status.Refusal.TheVariants.{Manifest, Legend, LegendSite, Trace, NotCells, Blif, Bits, NotInput, Source}
 use Rattle.surf_top.specs.declared.status.Status.{Status}
 use Rattle.surf_top.specs.declared.status.Status.TheVariants.{Done, Refused, Usage, NotEnabled, ReadFault, WriteFault, NoMemory, TooLong}
 use Rattle.surf_top.specs.Answers.{Ends, HasCauses, IsComplete, IsQuiet, PrintsCircuit, PrintsColony, PrintsRun, PrintsWhat, WroteWhole, WroteFront, limit}
 use Rattle.surf_top.specs.Commands.{IsReady, EndsJob, status_of}
-use Rattle.surf_top.specs.Outputs.{IsText, HasText, IsRefused, FindsBad, IsBadAt, IsValid, IsBlifRefused, IsCircuitRefused, IsEvalRefused, IsSetRefused, printed_run, replay_input, Shows, ShowsOf}
+use Rattle.surf_top.specs.Outputs.{IsText, HasText, IsRefused, FindsBad, IsBlifRefused, IsCircuitRefused, IsEvalRefused, IsSetRefused, printed_run, Shows, ShowsOf}
+use Rattle.surf_top.specs.Traced.{replay_input, IsBadAt, IsValid}
+use Rattle.surf_top.specs.Finals.{Recorded, recorded, IsEnded, EndsBad}
+use Rattle.surf_top.specs.Observed.{IsObserved, IsObserveRefused, ObservesBad}
 use Rattle.surf_circuit.specs.declared.inputs.SetError.{SetError}
 use Rattle.surf_circuit.specs.declared.inputs.SetError.TheVariants as sets
 use Rattle.surf_circuit.specs.Inputs.{set_fault}
@@ -104,6 +107,8 @@ no_values bits input (Blif e) is ok = no_fault input e is ok.accepted
 no_values bits input (Bits found wanted) is ok = is.differ (is.bits_are ∙ ok.enough ∙ sym is.inputs_are)
 no_values bits input (Manifest e) is ok = is
 no_values bits input (Legend e) is ok = is
+no_values bits input (LegendSite s) is ok = is
+no_values bits input NotCells is ok = is
 no_values bits input (Trace e) is ok = is
 no_values bits input (NotInput s) is ok = is
 no_values bits input (Source e) is ok = is
@@ -112,6 +117,8 @@ no_surface : (input : List ℕ) (r : Refusal) → IsCircuitRefused input r → I
 no_surface input (Blif e) is ok = no_fault input e is ok
 no_surface input (Manifest e) is ok = is
 no_surface input (Legend e) is ok = is
+no_surface input (LegendSite s) is ok = is
+no_surface input NotCells is ok = is
 no_surface input (Trace e) is ok = is
 no_surface input (Bits found wanted) is ok = is
 no_surface input (NotInput s) is ok = is
@@ -132,8 +139,14 @@ not_set bits input (Bits found wanted) is ok =
 not_set bits input (NotInput s) is ok =
     let e : Some (sets.NotInput s) ≡ None = one_fault bits input (Some (sets.NotInput s)) None is ok in cc
 not_set bits input (Trace e) is ok = is
+not_set bits input (LegendSite s) is ok = is
+not_set bits input NotCells is ok = is
 not_set bits input (Blif e) is ok = is
 not_set bits input (Source e) is ok = is
+
+not_observed : (p : Result (ManifestText × List Event) Refusal) (r : Refusal) → IsObserveRefused p r → IsObserved p → ⊥
+not_observed (Ok p) r is ok = is.0 ok.0
+not_observed (Err e) r is ok = ok
 
 -- an input that is refused has no text, and neither has one with an event that is not enabled
 refused_none : (job : Job) (input : List ℕ) (r : Refusal) → IsRefused job input r → HasText job input → ⊥
@@ -145,10 +158,20 @@ refused_none (Set bits) input r is ok = not_set bits input r is ok
 refused_none (Automaton margin last) input r is ok = false≢true (sym (ap is_ok is) ∙ ok)
 refused_none (Step times) input r is ok = false≢true (sym (ap is_ok is) ∙ ok)
 refused_none Replay input r is ok = subst (λ (p : Result (ManifestText × List Event) Refusal). IsValid p) is ok
+refused_none Outputs input r is ok = subst (λ (p : Result Recorded Refusal). IsEnded p) is ok
+refused_none (Observe k) input r is ok = not_observed (replay_input input) r is ok
 
 valid_not_bad : (p : Result (ManifestText × List Event) Refusal) (k : ℕ) → IsBadAt p k → IsValid p → ⊥
 valid_not_bad (Ok p) k bad run = run_not_bad (p.0).system.surface (p.0).system.start p.1 k run bad
 valid_not_bad (Err r) k bad run = run
+
+ended_not_bad : (p : Result Recorded Refusal) (k : ℕ) → EndsBad p k → IsEnded p → ⊥
+ended_not_bad (Ok p) k bad run = run_not_bad p.manifest.system.surface p.manifest.system.start p.events k run bad
+ended_not_bad (Err r) k bad run = run
+
+observed_not_bad : (p : Result (ManifestText × List Event) Refusal) (k : ℕ) → ObservesBad p k → IsObserved p → ⊥
+observed_not_bad (Ok p) k bad ok = run_not_bad (p.0).system.surface (p.0).system.start p.1 k ok.1 bad.1
+observed_not_bad (Err r) k bad ok = ok
 
 bad_none : (job : Job) (input : List ℕ) (k : ℕ) → FindsBad job input k → HasText job input → ⊥
 bad_none (Run seed count) input k bad ok = bad
@@ -159,6 +182,8 @@ bad_none (Set bits) input k bad ok = bad
 bad_none (Automaton margin last) input k bad ok = bad
 bad_none (Step times) input k bad ok = bad
 bad_none Replay input k bad ok = valid_not_bad (replay_input input) k bad ok
+bad_none Outputs input k bad ok = ended_not_bad (recorded input) k bad ok
+bad_none (Observe generation) input k bad ok = observed_not_bad (replay_input input) k bad ok
 
 -- the causes leave only Done and want of memory where nothing else can have come
 pub complete : (o : Option Job) (e : Ends) (s : Status) → HasCauses o e s → IsComplete o e s

@@ -10,3 +10,7 @@ pub mod Automata
 pub mod Surfaces
 pub mod LegendsRead
 pub mod Carried
+pub mod Faults
+pub mod Finals
+pub mod Observed
+pub mod ReadInStep

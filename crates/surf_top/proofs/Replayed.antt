@@ -18,7 +18,8 @@ use Rattle.surf_top.specs.Jobs.{Replay}
 use Rattle.surf_top.specs.declared.status.Refusal.{Refusal}
 use Rattle.surf_top.specs.declared.status.Status.TheVariants.{NotEnabled}
 use Rattle.surf_top.specs.Commands.{EndsJob}
-use Rattle.surf_top.specs.Outputs.{IsText, replay_input, replay_of, manifest_before, valid_text, IsValidText, IsBadAt}
+use Rattle.surf_top.specs.Outputs.{IsText}
+use Rattle.surf_top.specs.Traced.{replay_input, replay_of, manifest_before, valid_text, IsValidText, IsBadAt}
 use Rattle.surf_top.specs.Writes.{Writes}
 use Rattle.surf_top.proofs.Shown.{left_below}
 

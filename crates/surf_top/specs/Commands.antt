@@ -11,6 +11,8 @@ use Rattle.surf_manifest.specs.declared.error.ManifestError.{ManifestError}
 use Rattle.surf_manifest.specs.declared.error.ManifestError.TheVariants as faults
 use Rattle.surf_trace.specs.declared.error.TraceError.{TraceError}
 use Rattle.surf_trace.specs.declared.error.TraceError.TheVariants as traces
+use Rattle.surf_trace.specs.declared.error.ObserveError.{ObserveError}
+use Rattle.surf_trace.specs.declared.error.ObserveError.TheVariants as observes
 use Rattle.surf_manifest_print.specs.declared.legend_error.LegendError.{LegendError}
 use Rattle.surf_manifest_print.specs.declared.legend_error.LegendError.TheVariants as legends
 use Rattle.surf_circuit.specs.declared.inputs.SetError.{SetError}
@@ -22,7 +24,7 @@ use Rattle.surf_logic.specs.declared.values.EvalError.{EvalError}
 use Rattle.surf_logic.specs.declared.values.EvalError.TheVariants as evals
 use Rattle.surf_auto.specs.declared.error.SourceError.{SourceError}
 use Rattle.surf_auto.specs.declared.error.SourceError.TheVariants as sources
-use Rattle.surf_top.specs.declared.status.Refusal.TheVariants.{Manifest, Legend, Trace, Blif, Bits, NotInput, Source}
+use Rattle.surf_top.specs.declared.status.Refusal.TheVariants.{Manifest, Legend, Trace, NotCells, Blif, Bits, NotInput, Source}
 use Rattle.surf_top.specs.Outputs.{IsRefused, FindsBad}
 use Rattle.surf_top.specs.Answers.{WroteWhole, WroteFront}
 use Rattle.surf_top.specs.Writes.{Writes}
@@ -80,6 +82,11 @@ answer_to_trace traces.NoTrace = Refused (Trace traces.NoTrace)
 answer_to_trace (traces.BadTrace n) = Refused (Trace (traces.BadTrace n))
 answer_to_trace (traces.Unclosed n) = Refused (Trace (traces.Unclosed n))
 answer_to_trace traces.NoMemory = NoMemory
+
+abbrev pub answer_to_observe : ObserveError → Status
+answer_to_observe observes.NotCells = Refused NotCells
+answer_to_observe (observes.NotEnabled k) = NotEnabled k
+answer_to_observe observes.NoMemory = NoMemory
 
 abbrev pub answer_to_blif : BlifError → Status
 answer_to_blif (blifs.Unsupported n t) = Refused (Blif (blifs.Unsupported n t))

@@ -15,6 +15,8 @@ pub data Job : Type 0 where
   Automaton : ℕ → Option ℕ → Job
   Step : ℕ → Job
   Replay : Job
+  Outputs : Job
+  Observe : ℕ → Job
 
 -- the bits that a word of 0 and 1 spells
 abbrev pub bits_of : List ℕ → List Bool
@@ -30,6 +32,8 @@ meant (variants.Set bits) = Set (bits_of bits.now)
 meant (variants.Automaton margin last) = Automaton margin last
 meant (variants.Step times) = Step times
 meant variants.Replay = Replay
+meant variants.Outputs = Outputs
+meant (variants.Observe k) = Observe k
 
 -- the margin of an automaton and its last generation, if one is given, are within their limits
 abbrev pub IsWithin : Job → Type 0
@@ -46,8 +50,8 @@ job_for (Some (words.Set bits)) = Some (Set (bits_of bits))
 job_for (Some (words.Automaton margin last)) = Some (Automaton margin last)
 job_for (Some (words.Step times)) = Some (Step times)
 job_for (Some words.Replay) = Some Replay
-job_for (Some words.Outputs) = None
-job_for (Some (words.Observe k)) = None
+job_for (Some words.Outputs) = Some Outputs
+job_for (Some (words.Observe k)) = Some (Observe k)
 job_for (Some (words.DemoAdder n)) = None
 job_for (Some (words.DemoVote n)) = None
 

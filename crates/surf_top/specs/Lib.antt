@@ -6,9 +6,13 @@ pub mod Generations
 pub mod Automata
 pub mod Compiled
 pub mod Sets
+pub mod Traced
+pub mod Finals
+pub mod Observed
 pub mod Outputs
 pub mod Answers
 pub mod Notes
 pub mod Prints
 pub mod Commands
 pub mod CircuitLaws
+pub mod Watched

@@ -21,7 +21,7 @@ use Rattle.surf_auto.specs.declared.error.SourceError.TheVariants as sources
 use Rattle.surf_top.specs.declared.words.Tail.{Tail}
 use Rattle.surf_top.specs.declared.words.Tail.TheVariants as tails
 use Rattle.surf_top.specs.declared.status.Refusal.{Refusal}
-use Rattle.surf_top.specs.declared.status.Refusal.TheVariants.{Manifest, Legend, Trace, Blif, Bits, NotInput, Source}
+use Rattle.surf_top.specs.declared.status.Refusal.TheVariants.{Manifest, Legend, LegendSite, Trace, NotCells, Blif, Bits, NotInput, Source}
 use Rattle.surf_top.specs.declared.status.Status.{Status}
 use Rattle.surf_top.specs.declared.status.Status.TheVariants.{Done, Refused, Usage, NotEnabled, ReadFault, WriteFault, NoMemory, TooLong}
 use Rattle.surf_top.specs.Writes.{Writes}
@@ -120,7 +120,9 @@ source_words sources.NoMemory = codes "no-memory" ++ []
 abbrev pub refusal_words : Refusal → List ℕ
 refusal_words (Manifest e) = fault_words e
 refusal_words (Legend e) = legend_words e
+refusal_words (LegendSite s) = codes "legend-site" ++ (behind (decimal s.x) ++ behind (decimal s.y))
 refusal_words (Trace t) = trace_words t
+refusal_words NotCells = codes "not-cells" ++ []
 refusal_words (Blif e) = blif_words e
 refusal_words (Bits found wanted) = codes "bits" ++ (behind (decimal found) ++ behind (decimal wanted))
 refusal_words (NotInput s) = codes "not-input" ++ (behind (decimal s.x) ++ behind (decimal s.y))

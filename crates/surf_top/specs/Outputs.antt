@@ -1,20 +1,11 @@
 -- What a command writes for an input, or why it refuses it.
-use Rattle.std.specs.Prelude.{ℕ, ◌≡◌, ◌++◌, Bool, List, [], length, map, codes, Some, None, Result, Ok, Err, IsOk}
-use Rattle.std.specs.Fmt.{decimal}
-use Rattle.surf_text.specs.Bytes.{lines_of}
-use Rattle.surf_manifest.specs.Line.{line_of}
-use Rattle.surf_manifest.specs.Grammar.{ManifestText, manifest_of, read_from}
+use Rattle.std.specs.Prelude.{ℕ, ◌≡◌, Bool, List, None, Some, Result, Ok, Err, IsOk}
+use Rattle.surf_manifest.specs.Grammar.{ManifestText, manifest_of}
 use Rattle.surf_manifest.specs.declared.error.ManifestError.{ManifestError}
 use Rattle.surf_manifest_print.specs.Prints.{print_of}
-use Rattle.surf_top.specs.Jobs.{Job, Run, Format, Eval, Circuit, Set, Automaton, Step, Replay}
+use Rattle.surf_top.specs.Jobs.{Job, Run, Format, Eval, Circuit, Set, Automaton, Step, Replay, Outputs, Observe}
 use Rattle.surf_top.specs.declared.status.Refusal.{Refusal}
-use Rattle.surf_top.specs.declared.status.Refusal.TheVariants.{Manifest, Legend, Trace, Blif, Bits, NotInput, Source}
-use Rattle.surf_world.specs.declared.event.Event.{Event}
-use Rattle.surf_world.specs.Systems.{IsRun}
-use Rattle.surf_trace.specs.Replays.{FirstBad}
-use Rattle.surf_trace.specs.Splits.{before_trace}
-use Rattle.surf_trace.specs.TraceTexts.{trace_of}
-use Rattle.surf_trace.specs.declared.error.TraceError.{TraceError}
+use Rattle.surf_top.specs.declared.status.Refusal.TheVariants.{Manifest, Legend, LegendSite, Trace, NotCells, Blif, Bits, NotInput, Source}
 use Rattle.surf_blif.specs.declared.error.BlifError.{BlifError}
 use Rattle.surf_blif.specs.declared.error.BlifError.TheVariants as blifs
 use Rattle.surf_blif.specs.Blifs.{Refuses, parts_of}
@@ -25,6 +16,9 @@ use Rattle.surf_top.specs.Values.{HasValues, IsAccepted, TellsValues, MissesBits
 use Rattle.surf_top.specs.Compiled.{HoldsCircuit, IsCompiled}
 use Rattle.surf_top.specs.Sets.{IsSet, SetsWith}
 use Rattle.surf_top.specs.Generations.{source_of, printed_generation}
+use Rattle.surf_top.specs.Traced.{replay_input, IsValid, IsValidText, IsBadAt}
+use Rattle.surf_top.specs.Finals.{recorded, IsEnded, IsEndedText, EndsBad}
+use Rattle.surf_top.specs.Observed.{IsObserved, IsObservedText, IsObserveRefused, ObservesBad}
 use Rattle.surf_top.specs.Automata.{HoldsColony, printed_colony}
 
 abbrev pub printed_run : ℕ → ℕ → Result ManifestText ManifestError → Result (List ℕ) Refusal
@@ -34,37 +28,6 @@ printed_run seed count (Err e) = Err (Manifest e)
 abbrev pub printed_manifest : Result ManifestText ManifestError → Result (List ℕ) Refusal
 printed_manifest (Ok m) = Ok (print_of m None)
 printed_manifest (Err e) = Err (Manifest e)
-
--- the manifest that stands before an input's trace, or its fault
-abbrev pub manifest_before : List ℕ → Result ManifestText ManifestError
-manifest_before input = read_from [] (map line_of (before_trace (lines_of input)))
-
-abbrev pub replay_of : Result ManifestText ManifestError → Result (List Event) TraceError → Result (ManifestText × List Event) Refusal
-replay_of (Err e) t = Err (Manifest e)
-replay_of (Ok m) (Err t) = Err (Trace t)
-replay_of (Ok m) (Ok es) = Ok (m, es)
-
--- the manifest of an input and the events of its trace, or a fault: the manifest's goes first
-abbrev pub replay_input : List ℕ → Result (ManifestText × List Event) Refusal
-replay_input input = replay_of (manifest_before input) (trace_of input)
-
--- the line of a trace that is a run
-abbrev pub valid_text : List Event → List ℕ
-valid_text es = codes "valid " ++ (decimal (length es) ++ codes "\n")
-
--- the trace is a run of its manifest
-abbrev pub IsValid : Result (ManifestText × List Event) Refusal → Type 0
-IsValid (Ok p) = IsRun (p.0).system.surface (p.0).system.start p.1
-IsValid (Err r) = ⊥
-
-abbrev pub IsValidText : Result (ManifestText × List Event) Refusal → List ℕ → Type 0
-IsValidText (Ok p) text = IsRun (p.0).system.surface (p.0).system.start p.1 × (text ≡ valid_text p.1)
-IsValidText (Err r) text = ⊥
-
--- the k-th event of the trace is the first that is not enabled at its turn
-abbrev pub IsBadAt : Result (ManifestText × List Event) Refusal → ℕ → Type 0
-IsBadAt (Ok p) k = FirstBad (p.0).system.surface (p.0).system.start p.1 k
-IsBadAt (Err r) k = ⊥
 
 -- a job writes this text for an input
 abbrev pub IsText : Job → List ℕ → List ℕ → Type 0
@@ -76,6 +39,8 @@ IsText (Set bits) input text = IsSet bits input text
 IsText (Automaton margin last) input text = printed_colony last (source_of margin input) ≡ Ok text
 IsText (Step times) input text = printed_generation times (source_of 0 input) ≡ Ok text
 IsText Replay input text = IsValidText (replay_input input) text
+IsText Outputs input text = IsEndedText (recorded input) text
+IsText (Observe k) input text = IsObservedText k (replay_input input) text
 
 -- a job writes some text for an input
 abbrev pub HasText : Job → List ℕ → Type 0
@@ -87,6 +52,8 @@ HasText (Set bits) input = SetsWith bits input None
 HasText (Automaton margin last) input = IsOk (printed_colony last (source_of margin input))
 HasText (Step times) input = IsOk (printed_generation times (source_of 0 input))
 HasText Replay input = IsValid (replay_input input)
+HasText Outputs input = IsEnded (recorded input)
+HasText (Observe k) input = IsObserved (replay_input input)
 
 -- a fault of the text refuses it: the error tells one, and is no want of memory
 abbrev pub IsBlifRefused : List ℕ → BlifError → Type 0
@@ -98,6 +65,8 @@ IsEvalRefused bits input (Blif e) = IsBlifRefused input e
 IsEvalRefused bits input (Bits found wanted) = MissesBits bits input found wanted
 IsEvalRefused bits input (Manifest e) = ⊥
 IsEvalRefused bits input (Legend e) = ⊥
+IsEvalRefused bits input (LegendSite s) = ⊥
+IsEvalRefused bits input NotCells = ⊥
 IsEvalRefused bits input (Trace e) = ⊥
 IsEvalRefused bits input (NotInput s) = ⊥
 IsEvalRefused bits input (Source e) = ⊥
@@ -107,6 +76,8 @@ abbrev pub IsCircuitRefused : List ℕ → Refusal → Type 0
 IsCircuitRefused input (Blif e) = IsBlifRefused input e
 IsCircuitRefused input (Manifest e) = ⊥
 IsCircuitRefused input (Legend e) = ⊥
+IsCircuitRefused input (LegendSite s) = ⊥
+IsCircuitRefused input NotCells = ⊥
 IsCircuitRefused input (Trace e) = ⊥
 IsCircuitRefused input (Bits found wanted) = ⊥
 IsCircuitRefused input (NotInput s) = ⊥
@@ -119,6 +90,8 @@ IsSetRefused bits input (Legend e) = IsOk (manifest_of input) × (legend_of inpu
 IsSetRefused bits input (Bits found wanted) = SetsWith bits input (Some (sets.Length found wanted))
 IsSetRefused bits input (NotInput s) = SetsWith bits input (Some (sets.NotInput s))
 IsSetRefused bits input (Trace e) = ⊥
+IsSetRefused bits input (LegendSite s) = ⊥
+IsSetRefused bits input NotCells = ⊥
 IsSetRefused bits input (Blif e) = ⊥
 IsSetRefused bits input (Source e) = ⊥
 
@@ -132,6 +105,8 @@ IsRefused (Set bits) input r = IsSetRefused bits input r
 IsRefused (Automaton margin last) input r = printed_colony last (source_of margin input) ≡ Err r
 IsRefused (Step times) input r = printed_generation times (source_of 0 input) ≡ Err r
 IsRefused Replay input r = replay_input input ≡ Err r
+IsRefused Outputs input r = recorded input ≡ Err r
+IsRefused (Observe k) input r = IsObserveRefused (replay_input input) r
 
 -- a job finds an event that is not enabled at its turn
 abbrev pub FindsBad : Job → List ℕ → ℕ → Type 0
@@ -143,6 +118,8 @@ FindsBad (Set bits) input k = ⊥
 FindsBad (Automaton margin last) input k = ⊥
 FindsBad (Step times) input k = ⊥
 FindsBad Replay input k = IsBadAt (replay_input input) k
+FindsBad Outputs input k = EndsBad (recorded input) k
+FindsBad (Observe generation) input k = ObservesBad (replay_input input) k
 
 -- what a text says of the manifest that was read
 abbrev pub ShowsOf : ℕ → Result ManifestText ManifestError → List ℕ → Type 0
@@ -159,3 +136,5 @@ Shows (Set bits) input text = Unit {0}
 Shows (Automaton margin last) input text = HoldsColony margin last input text
 Shows (Step times) input text = Unit {0}
 Shows Replay input text = Unit {0}
+Shows Outputs input text = Unit {0}
+Shows (Observe k) input text = Unit {0}

@@ -3,6 +3,7 @@ ghost use Rattle.std.specs.Prelude.{◌≡◌, ◌<◌, ℕ, List, Some, All, le
 ghost use Rattle.std.specs.Fmt.{decimal};
 ghost use Rattle.surf_base.specs.Pieces.{piece_text};
 ghost use Rattle.surf_rules.specs.Names.{text_of};
+ghost use Rattle.surf_top.specs.Observed.{state_word};
 
 use surf_base::Piece;
 use surf_lattice::Lattice;
@@ -36,6 +37,25 @@ impl Cells for States<'_> {
 
     fn piece(&self, place: usize) -> Piece<'_> {
         Piece::Number(u64::from(self.states[place]))
+    }
+}
+
+/// States of some sites, shown as decimals, and as `-` where there is none.
+#[derive(Drop)]
+pub struct Observed<'a> {
+    pub states: &'a [Option<u32>],
+}
+
+impl Cells for Observed<'_> {
+    ghost texts = { λ s. map state_word s.states.now };
+
+    ghost valid = { λ _. Unit {0} };
+
+    fn piece(&self, place: usize) -> Piece<'_> {
+        match self.states[place] {
+            Some(state) => Piece::Number(u64::from(state)),
+            None => Piece::Text(b"-"),
+        }
     }
 }
 

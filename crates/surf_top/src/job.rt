@@ -27,6 +27,10 @@ pub enum Job<'a> {
     Step { times: u32 },
     /// Whether a trace is a run of the manifest before it.
     Replay,
+    /// What stands at the outputs after a trace.
+    Outputs,
+    /// The states of each cell's generation `k`, read off a trace.
+    Observe { k: u64 },
 }
 
 fn job_for<'a>(command: &Command<'a>) -> Option<Job<'a>>
@@ -50,8 +54,8 @@ fn job_for<'a>(command: &Command<'a>) -> Option<Job<'a>>
         }),
         Command::Step { times } => Some(Job::Step { times: *times }),
         Command::Replay => Some(Job::Replay),
-        Command::Outputs => None,
-        Command::Observe { .. } => None,
+        Command::Outputs => Some(Job::Outputs),
+        Command::Observe { k } => Some(Job::Observe { k: *k }),
         Command::DemoAdder { .. } => None,
         Command::DemoVote { .. } => None,
     }

@@ -1,9 +1,17 @@
 // Laws of the texts that commands write, each the contract of a function that does nothing.
 ghost use Rattle.surf_top.specs.CircuitLaws.{SurfacesAreSet};
+ghost use Rattle.surf_top.specs.Watched.{AreReadInStep};
 
 /// What `circuit` writes can be set to as many bits as there are inputs. What `set` then writes is
 /// taken by `run` and `format`, has the same legend, and each of its runs to the end has as many
 /// events as that says and shows the values of the circuit's outputs.
 pub fn surfaces_are_set()
     ensures { SurfacesAreSet }
+{}
+
+/// In any run of a surface whose cells keep in step, as what `automaton` writes spells one, the state
+/// that `observe K` reads off a cell is the synchronous one of generation K, wherever the cell has
+/// come so far, and none where it has not and where no cell stands.
+pub fn cells_are_observed()
+    ensures { AreReadInStep }
 {}

@@ -14,6 +14,8 @@ mod evaluating;
 mod events;
 mod job;
 mod laws;
+mod observing;
+mod outputs;
 mod print;
 mod reasons;
 mod replaying;
@@ -25,7 +27,7 @@ mod top;
 mod words;
 
 pub use job::Job;
-pub use laws::surfaces_are_set;
+pub use laws::{cells_are_observed, surfaces_are_set};
 pub use reasons::note;
 pub use status::{Refusal, Status};
 pub use top::surf;

@@ -3,7 +3,7 @@ ghost use Rattle.std.specs.Prelude.{◌≡◌, ◌≤◌, length};
 ghost use Rattle.surf_top.specs.Answers.{IsQuiet};
 ghost use Rattle.surf_top.specs.Commands.{EndsJob};
 ghost use Rattle.surf_top.specs.Jobs.{Replay};
-ghost use Rattle.surf_top.specs.Outputs.{valid_text};
+ghost use Rattle.surf_top.specs.Traced.{valid_text};
 ghost use Rattle.surf_top.specs.Writes.{Wrote, writes};
 
 use crate::Status;

@@ -17,7 +17,11 @@ use surf_trace::TraceError;
 pub enum Refusal {
     Manifest(ManifestError),
     Legend(LegendError),
+    /// This is the site of the first output outside the surface.
+    LegendSite(Site),
     Trace(TraceError),
+    /// Some name is neither a cell's nor the frame's.
+    NotCells,
     Blif(BlifError),
     /// There are so many bits, and the circuit has so many inputs.
     Bits { found: u64, wanted: u64 },

@@ -11,6 +11,8 @@ use crate::colonies::compile_source;
 use crate::compiling::compile_circuit;
 use crate::evaluating::evaluate;
 use crate::job::read_job;
+use crate::observing::show_observed;
+use crate::outputs::show_finals;
 use crate::reasons::note;
 use crate::replaying::check_trace;
 use crate::run::run;
@@ -39,6 +41,8 @@ fn carry_out<K: Sink>(alloc: Global, job: &Job<'_>, input: Vec<u8>, out: &mut K)
         Job::Automaton { margin, last } => compile_source(alloc, input, *margin, *last, out),
         Job::Step { times } => show_generation(alloc, input, *times, out),
         Job::Replay => check_trace(alloc, input, out),
+        Job::Outputs => show_finals(alloc, input, out),
+        Job::Observe { k } => show_observed(alloc, input, *k, out),
     }
 }
 

@@ -126,7 +126,12 @@ pub fn words_of_refusal(refusal: &Refusal) -> (&'static [u8], Tail<'_>)
     match refusal {
         Refusal::Manifest(fault) => words_of_fault(fault),
         Refusal::Legend(fault) => words_of_legend(fault),
+        Refusal::LegendSite(site) => {
+            let (x, y) = (u64::from(site.x), u64::from(site.y));
+            (b"legend-site", Tail::Numbers(x, y))
+        }
         Refusal::Trace(fault) => words_of_trace(fault),
+        Refusal::NotCells => (b"not-cells", Tail::Nothing),
         Refusal::Blif(error) => words_of_blif(error),
         Refusal::Bits { found, wanted } => (b"bits", Tail::Numbers(*found, *wanted)),
         Refusal::NotInput(site) => {

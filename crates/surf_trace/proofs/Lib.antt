@@ -3,3 +3,9 @@ pub mod SplitLines
 pub mod Words
 pub mod Decimals
 pub mod ReadBack
+pub mod Watched
+pub mod Sighted
+pub mod Followed
+pub mod Told
+pub mod Mapped
+pub mod Renamed

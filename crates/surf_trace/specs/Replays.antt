@@ -14,6 +14,11 @@ pub record FirstBad {N : Type 0} (S : Surface N) (c : List N) (es : List Event) 
   pub listed : slice_get es (k - 1) ≡ Some event
   pub fails : Enabled S (left_by S c (take (k - 1) es)) event → ⊥
 
+-- all events are enabled at their turn, or this one is the first that is not
+abbrev pub Judges : {N : Type 0} → Surface N → List N → List Event → Verdict → Type 0
+Judges S c es Valid = IsRun S c es
+Judges S c es (NotEnabled k) = FirstBad S c es k
+
 -- the events that a replay takes
 abbrev pub taken : List Event → Verdict → List Event
 taken es Valid = es

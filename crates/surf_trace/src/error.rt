@@ -1,3 +1,4 @@
+// What is refused.
 use thiserror::Error;
 
 /// Why a text has no trace. Lines are counted from 1 over the whole text.
@@ -12,6 +13,19 @@ pub enum TraceError {
     /// The block that this line opens has no end.
     #[error("Unclosed")]
     Unclosed(u64),
+    #[error("NoMemory")]
+    NoMemory,
+}
+
+/// Why nothing is read off a run. Events are counted from 1.
+#[derive(Debug, Drop, Error)]
+pub enum ObserveError {
+    /// Some name at a site or in a rule is neither a cell's nor the frame's.
+    #[error("NotCells")]
+    NotCells,
+    /// This event is the first that is not enabled at its turn.
+    #[error("NotEnabled")]
+    NotEnabled(u64),
     #[error("NoMemory")]
     NoMemory,
 }

@@ -6,7 +6,7 @@ use Rattle.surf_trace.specs.Replays.{FirstBad}
 use Rattle.surf_trace.specs.Splits.{before_trace}
 use Rattle.surf_trace.specs.TraceTexts.{trace_of}
 use Rattle.surf_top.specs.Jobs.{Replay}
-use Rattle.surf_top.specs.Outputs.{manifest_before, valid_text}
+use Rattle.surf_top.specs.Traced.{manifest_before, valid_text}
 use Rattle.surf_top.specs.Writes.{Wrote, writes}
 use Rattle.surf_top.proofs.Ends.{text_ends, loud}
 use Rattle.surf_top.proofs.Replayed.{part_is, replay_is, valid, bad_ends}

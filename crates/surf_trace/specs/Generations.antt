@@ -34,3 +34,12 @@ observed show S c (e ∷ es) p (suc k) =
     if changed (shown_at show (slice_get c p)) (shown_at show (slice_get (after S c e) p)) == 0
     then observed show S (after S c e) es p (suc k)
     else observed show S (after S c e) es p k
+
+-- nothing where nothing was shown
+abbrev pub if_shown : Option Showing → Option ℕ → Option ℕ
+if_shown None state = None
+if_shown (Some s) state = state
+
+-- what is read off p as generation k: nothing for ever where nothing is shown there at first
+abbrev pub read_off : {N : Type 0} → (N → Option Showing) → Surface N → List N → List Event → ℕ → ℕ → Option ℕ
+read_off show S c es p k = if_shown (shown_at show (slice_get c p)) (observed show S c es p k)
