@@ -36,7 +36,8 @@ AreSums g cells y sums =
 -- the next state of a cell stands at 9 times its own state and the count of its live neighbours
 abbrev pub IsTableOf : Counts → List ℕ → Type 0
 IsTableOf C table =
-    (own count : ℕ) → own ≤ 1 → count ≤ 8 → slice_index table (own * 9 + count) ≡ looked_up C own count
+    (own count : ℕ) → own ≤ 1 → count ≤ 8 → slice_index table (own * 9 + count)
+    ≡ looked_up C own count
 
 -- the places below n hold the next states
 abbrev pub AreNextBelow : Counts → Grid → List ℕ → List ℕ → ℕ → Type 0

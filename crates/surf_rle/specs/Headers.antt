@@ -6,7 +6,8 @@ use Rattle.surf_text.specs.Bytes.{trimmed, before, after}
 
 -- what a field `key = value` gives to this key; blanks around both are free
 abbrev pub value_in : List ℕ → List ℕ → Option (List ℕ)
-value_in key field = if bytes_eq (trimmed (before 61 field)) key then option_map trimmed (after 61 field) else None
+value_in key field =
+    if bytes_eq (trimmed (before 61 field)) key then option_map trimmed (after 61 field) else None
 
 -- the number at most 4,294,967,295 that a text spells
 abbrev pub number_from : Option (List ℕ) → Option ℕ
@@ -36,7 +37,8 @@ header_from (Some w) (Some h) (Some r) = Some (record { width = w; height = h; r
 -- the second and third field behind the first comma
 abbrev pub header_behind : Option ℕ → Option (List ℕ) → Option Header
 header_behind width None = None
-header_behind width (Some t) = header_from width (number_in (codes "y") (before 44 t)) (rule_in (after 44 t))
+header_behind width (Some t) =
+    header_from width (number_in (codes "y") (before 44 t)) (rule_in (after 44 t))
 
 abbrev pub header_of : List ℕ → Option Header
 header_of line = header_behind (number_in (codes "x") (before 44 line)) (after 44 line)

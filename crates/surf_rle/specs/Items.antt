@@ -19,7 +19,9 @@ with_digit d (p ∷ ps) = record { digits = d ∷ p.digits; byte = p.byte } ∷ 
 -- a line cut behind each byte that is no digit
 abbrev pub pieces_of : List ℕ → List Piece
 pieces_of [] = []
-pieces_of (b ∷ bs) = if is_digit b then with_digit b (pieces_of bs) else record { digits = []; byte = b } ∷ pieces_of bs
+pieces_of (b ∷ bs) =
+    if is_digit b then with_digit b (pieces_of bs) else record { digits = []; byte = b }
+    ∷ pieces_of bs
 
 -- so many dead or live cells, or rows down
 abbrev pub counted : ℕ → ℕ → Sign

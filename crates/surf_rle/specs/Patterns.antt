@@ -1,4 +1,5 @@
--- Where the items of a pattern stand, the first of them that is a fault, and the cells that they make live.
+-- Where the items of a pattern stand, the first of them that is a fault, and the cells that they
+-- make live.
 use Rattle.std.specs.Prelude.{ℕ, ◌+◌, Bool, true, false, ◌&&◌, ◌==◌, nat_lt, nat_le, List, [], ◌∷◌, ◌++◌, map, Option, Some, None, Result, Ok, Err, if◌then◌else◌}
 use Rattle.std.specs.List.{list_any}
 use Rattle.surf_lattice.specs.declared.site.Site.{Site}
@@ -119,5 +120,6 @@ unless (Some f) r = Err f
 abbrev pub cells_read : Sheet → List Mark → Result (List ℕ) SourceError
 cells_read s ms =
     unless (first_fault s.width s.height (placed 0 0 (before_end ms)))
-    (if has_end ms then Ok (map (cell_at s.corner (placed 0 0 (before_end ms))) (sites (sheet_grid s)))
+    (if has_end ms
+    then Ok (map (cell_at s.corner (placed 0 0 (before_end ms))) (sites (sheet_grid s)))
     else Err Unclosed)

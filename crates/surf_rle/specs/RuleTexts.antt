@@ -54,7 +54,8 @@ rule_parts birth survival (Some n) =
 
 abbrev pub rule_behind : List ℕ → Option (List ℕ) → Option RuleText
 rule_behind birth None = None
-rule_behind birth (Some t) = rule_parts birth (digits_of t) (neighbours_of (without_front is_digit t))
+rule_behind birth (Some t) =
+    rule_parts birth (digits_of t) (neighbours_of (without_front is_digit t))
 
 abbrev pub rule_from : Option (List ℕ) → Option (List ℕ) → Option RuleText
 rule_from None rest = None

@@ -1,4 +1,5 @@
--- Where the box of a pattern stands: its upper left corner has both coordinates `corner` in a grid of the full sides.
+-- Where the box of a pattern stands: its upper left corner has both coordinates `corner` in a grid
+-- of the full sides.
 use Rattle.std.specs.Prelude.{ℕ, ◌+◌, ◌*◌, true, false, Option, Some, None}
 use Rattle.surf_lattice.specs.declared.site.GridKind.{GridKind}
 use Rattle.surf_lattice.specs.Grids.{Grid}

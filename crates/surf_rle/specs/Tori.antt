@@ -1,4 +1,5 @@
--- The rule of a header: a rule, and where its sides are joined, a colon, T, a width, a comma and a height.
+-- The rule of a header: a rule, and where its sides are joined, a colon, T, a width, a comma and a
+-- height.
 use Rattle.std.specs.Prelude.{ℕ, suc, ◌%◌, ◌^◌, Bool, ◌&&◌, ◌==◌, nat_lt, nat_le, List, Option, Some, None, if◌then◌else◌}
 use Rattle.surf_base.specs.Decimal.{decimal_below}
 use Rattle.surf_text.specs.Bytes.{before, after}

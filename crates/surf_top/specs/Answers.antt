@@ -18,7 +18,8 @@ use Rattle.surf_top.specs.Writes.{Writes}
 abbrev pub limit : ℕ
 limit = 268435456
 
--- the bytes that a source has left and its count of faults, at a call's entry and at its return, and what the call did to the output
+-- the bytes that a source has left and its count of faults, at a call's entry and at its return,
+-- and what the call did to the output
 pub record Ends : Type 0 where
   pub left_before : Option (List ℕ)
   pub left_after : Option (List ℕ)
@@ -42,7 +43,8 @@ NoFaults e = (e.reads_after ≡ e.reads_before) × (e.out.now ≡ e.out.before)
 
 -- the input was read to its end, and it is not too long
 abbrev pub ReadWhole : Ends → (List ℕ → Type 0) → Type 0
-ReadWhole e P = IsAtEnd e.left_after × IfSome e.left_before (λ input. (length input ≤ limit) × P input)
+ReadWhole e P =
+    IsAtEnd e.left_after × IfSome e.left_before (λ input. (length input ≤ limit) × P input)
 
 -- the output of the job for the input was written, and nothing else
 pub record WroteWhole (job : Job) (input : List ℕ) (old new : Option (List ℕ)) : Type 0 where
@@ -72,36 +74,47 @@ HasCauses (Some job) e ReadFault = Rose e.reads_before e.reads_after
 HasCauses None e TooLong = ⊥
 HasCauses (Some job) e TooLong = IfSome e.left_before (λ input. limit < length input)
 HasCauses None e WriteFault = ⊥
-HasCauses (Some job) e WriteFault = Rose e.out.before e.out.now × ReadWhole e (λ input. WroteFront job input e.out.old e.out.new)
+HasCauses (Some job) e WriteFault =
+    Rose e.out.before e.out.now × ReadWhole e (λ input. WroteFront job input e.out.old e.out.new)
 HasCauses None e NoMemory = ⊥
 HasCauses (Some job) e NoMemory = NoFaults e
 
--- Where the words are a command, the input is not too long, it has an output, and no count of faults rose, the answer is Done, or want of memory.
+-- Where the words are a command, the input is not too long, it has an output, and no count of
+-- faults rose, the answer is Done, or want of memory.
 abbrev pub IsComplete : Option Job → Ends → Status → Type 0
 IsComplete None e status = Unit {0}
 IsComplete (Some job) e status =
     (Rose e.reads_before e.reads_after → ⊥) → (Rose e.out.before e.out.now → ⊥)
-    → IfSome e.left_before (λ input. length input ≤ limit → HasText job input → (status ≡ Done) ⊎ (status ≡ NoMemory))
+    → IfSome e.left_before (λ input. length input ≤ limit → HasText job input →
+    (status ≡ Done) ⊎ (status ≡ NoMemory))
 
 -- where the answer is Done, a text was written that shows this of the input
 abbrev pub PrintsWhat : Ends → Status → (List ℕ → List ℕ → Type 0) → Type 0
 PrintsWhat e status P =
-    status ≡ Done → IfSome e.left_before (λ input. (text : List ℕ) × P input text × Appends e.out.old e.out.new text)
+    status ≡ Done → IfSome e.left_before (λ input. (text : List ℕ) × P input text
+    × Appends e.out.old e.out.new text)
 
 -- what `run` writes shows a run of the manifest that was read
 abbrev pub PrintsRun : Option Job → Ends → Status → Type 0
 PrintsRun None e status = Unit {0}
-PrintsRun (Some (Run seed count)) e status = PrintsWhat e status (λ input text. IfOk (manifest_of input) (λ m. ShowsRun m.system count text))
+PrintsRun (Some (Run seed count)) e status =
+    PrintsWhat e status (λ input text. IfOk (manifest_of input) (λ m. ShowsRun m.system count text))
 PrintsRun (Some job) e status = Unit {0}
 
--- In what `circuit` writes the grammar reads a manifest and a legend. The legend names the inputs and outputs of the circuit that was read. Whichever bits the inputs are set to, no run has more events than the legend says, and a run that cannot go on has just so many and shows each output's value.
+-- In what `circuit` writes the grammar reads a manifest and a legend. The legend names the inputs
+-- and outputs of the circuit that was read. Whichever bits the inputs are set to, no run has more
+-- events than the legend says, and a run that cannot go on has just so many and shows each output's
+-- value.
 abbrev pub PrintsCircuit : Option Job → Ends → Status → Type 0
 PrintsCircuit None e status = Unit {0}
-PrintsCircuit (Some Circuit) e status = PrintsWhat e status (λ input text. HoldsCircuit (parts_of input) text)
+PrintsCircuit (Some Circuit) e status =
+    PrintsWhat e status (λ input text. HoldsCircuit (parts_of input) text)
 PrintsCircuit (Some job) e status = Unit {0}
 
--- In what `automaton` writes the grammar reads a manifest. In every run of it, in whatever order its
--- events come, a cell of generation k shows the synchronous state of k of the automaton that was read,
+-- In what `automaton` writes the grammar reads a manifest. In every run of it, in whatever order
+-- its
+-- events come, a cell of generation k shows the synchronous state of k of the automaton that was
+-- read,
 -- and neighbours are within one generation. With a last generation each run ends there.
 abbrev pub PrintsColony : Option Job → Ends → Status → Type 0
 PrintsColony None e status = Unit {0}

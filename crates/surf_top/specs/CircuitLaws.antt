@@ -1,4 +1,5 @@
--- What the text of a circuit's surface is for: its inputs can be set to any bits, and what is then written runs to the values of the circuit's outputs.
+-- What the text of a circuit's surface is for: its inputs can be set to any bits, and what is then
+-- written runs to the values of the circuit's outputs.
 use Rattle.std.specs.Prelude.{ℕ, ◌≡◌, Bool, List, length, Ok}
 use Rattle.std.specs.Str.{bytes_eq}
 use Rattle.surf_logic.specs.Equations.{PartsOf}
@@ -23,11 +24,13 @@ pub record SetsAndSettles (B : PartsOf (List ℕ)) (text : List ℕ) (bits : Lis
   pub same : legend_of text ≡ Ok legend
   pub runs : (seed count : ℕ) → HasText (Run seed count) set
   pub formats : HasText Format set
-  -- every run to its end has just so many events as the legend says, and shows the values that the equations give for these bits
+  -- every run to its end has just so many events as the legend says, and shows the values that the
+  -- equations give for these bits
   pub values : List Bool
   pub solved : EvalOf bytes_eq B bits values
   pub settles : SettlesTo manifest.system legend.outputs legend.events values
 
 -- a text that holds a circuit is set to as many bits as the circuit has inputs
 abbrev pub SurfacesAreSet : Type 0
-SurfacesAreSet = (B : PartsOf (List ℕ)) (text : List ℕ) (bits : List Bool) → HoldsCircuit B text → length bits ≡ length B.inputs → SetsAndSettles B text bits
+SurfacesAreSet = (B : PartsOf (List ℕ)) (text : List ℕ) (bits : List Bool) → HoldsCircuit B text →
+    length bits ≡ length B.inputs → SetsAndSettles B text bits

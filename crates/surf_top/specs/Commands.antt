@@ -30,7 +30,8 @@ use Rattle.surf_top.specs.Answers.{WroteWhole, WroteFront}
 use Rattle.surf_top.specs.Writes.{Writes}
 
 -- a simulator of the manifest that no event was taken of, and the texts of its numbers
-pub record IsReady (m : ManifestText) (seed : ℕ) (sim : Simulation) (texts : List (List ℕ)) : Type 0 where
+pub record IsReady (m : ManifestText) (seed : ℕ) (sim : Simulation) (texts : List (List ℕ)) :
+    Type 0 where
   pub numbered : IsNumbered m.system sim.placed texts
   pub seeds : sim.generator ≡ seeded seed
 

@@ -18,7 +18,8 @@ pub record IsCompiled (input text : List ℕ) : Type 0 where
   pub surface : IsSurfaceOf circuit manifest legend
   pub is : text ≡ print_of manifest (Some legend)
 
--- the grammar reads in the text a manifest and a legend that compute the circuit, whichever bits its inputs are set to
+-- the grammar reads in the text a manifest and a legend that compute the circuit, whichever bits
+-- its inputs are set to
 pub record HoldsCircuit (B : PartsOf (List ℕ)) (text : List ℕ) : Type 0 where
   pub manifest : ManifestText
   pub legend : LegendText

@@ -23,7 +23,8 @@ use Rattle.surf_top.specs.Traced.{manifest_before}
 -- the value that a name tells: 0 or 1, and else -
 abbrev pub final_byte : Option (List ℕ) → ℕ
 final_byte None = 45
-final_byte (Some name) = if bytes_eq name (codes "0") then 48 else (if bytes_eq name (codes "1") then 49 else 45)
+final_byte (Some name) =
+    if bytes_eq name (codes "0") then 48 else (if bytes_eq name (codes "1") then 49 else 45)
 
 -- a place's name, and the value that stands at its site
 abbrev pub final_line : Grid → List (List ℕ) → Place → List ℕ
@@ -40,7 +41,9 @@ first_outside g (p ∷ ps) = if inside_test g p.site then first_outside g ps els
 
 -- the legend in the lines before an input's trace, or its fault
 abbrev pub legend_before : List ℕ → Result LegendText LegendError
-legend_before input = legend_in 0 (record { inputs = []; outputs = []; events = None }) (before_trace (lines_of input))
+legend_before input =
+    legend_in 0 (record { inputs = []; outputs = []; events = None })
+    (before_trace (lines_of input))
 
 -- a manifest with its legend, and the events of a trace
 pub record Recorded : Type 0 where
@@ -48,27 +51,32 @@ pub record Recorded : Type 0 where
   pub legend : LegendText
   pub events : List Event
 
-abbrev pub recorded_events : ManifestText → LegendText → Result (List Event) TraceError → Result Recorded Refusal
+abbrev pub recorded_events : ManifestText → LegendText → Result (List Event) TraceError →
+    Result Recorded Refusal
 recorded_events m l (Err e) = Err (Trace e)
 recorded_events m l (Ok es) = Ok (record { manifest = m; legend = l; events = es })
 
-abbrev pub recorded_inside : ManifestText → LegendText → Option Site → Result (List Event) TraceError → Result Recorded Refusal
+abbrev pub recorded_inside : ManifestText → LegendText → Option Site →
+    Result (List Event) TraceError → Result Recorded Refusal
 recorded_inside m l (Some s) t = Err (LegendSite s)
 recorded_inside m l None t = recorded_events m l t
 
-abbrev pub recorded_of : Result ManifestText ManifestError → Result LegendText LegendError → Result (List Event) TraceError → Result Recorded Refusal
+abbrev pub recorded_of : Result ManifestText ManifestError → Result LegendText LegendError →
+    Result (List Event) TraceError → Result Recorded Refusal
 recorded_of (Err e) l t = Err (Manifest e)
 recorded_of (Ok m) (Err e) t = Err (Legend e)
 recorded_of (Ok m) (Ok l) t = recorded_inside m l (first_outside m.system.surface.grid l.outputs) t
 
--- what an input records, or its first fault: of the manifest, of the legend, an output outside, of the trace
+-- what an input records, or its first fault: of the manifest, of the legend, an output outside, of
+-- the trace
 abbrev pub recorded : List ℕ → Result Recorded Refusal
 recorded input = recorded_of (manifest_before input) (legend_before input) (trace_of input)
 
 -- the values at the outputs after the events
 abbrev pub ended_text : Recorded → List ℕ
 ended_text r =
-    finals_text r.manifest.system.surface.grid (left_by r.manifest.system.surface r.manifest.system.start r.events) r.legend.outputs
+    finals_text r.manifest.system.surface.grid (left_by r.manifest.system.surface
+    r.manifest.system.start r.events) r.legend.outputs
 
 -- the trace is a run of its manifest
 abbrev pub IsEnded : Result Recorded Refusal → Type 0
@@ -76,7 +84,8 @@ IsEnded (Ok r) = IsRun r.manifest.system.surface r.manifest.system.start r.event
 IsEnded (Err e) = ⊥
 
 abbrev pub IsEndedText : Result Recorded Refusal → List ℕ → Type 0
-IsEndedText (Ok r) text = IsRun r.manifest.system.surface r.manifest.system.start r.events × (text ≡ ended_text r)
+IsEndedText (Ok r) text =
+    IsRun r.manifest.system.surface r.manifest.system.start r.events × (text ≡ ended_text r)
 IsEndedText (Err e) text = ⊥
 
 -- the k-th event of the trace is the first that is not enabled at its turn

@@ -124,7 +124,8 @@ refusal_words (LegendSite s) = codes "legend-site" ++ (behind (decimal s.x) ++ b
 refusal_words (Trace t) = trace_words t
 refusal_words NotCells = codes "not-cells" ++ []
 refusal_words (Blif e) = blif_words e
-refusal_words (Bits found wanted) = codes "bits" ++ (behind (decimal found) ++ behind (decimal wanted))
+refusal_words (Bits found wanted) =
+    codes "bits" ++ (behind (decimal found) ++ behind (decimal wanted))
 refusal_words (NotInput s) = codes "not-input" ++ (behind (decimal s.x) ++ behind (decimal s.y))
 refusal_words (Source e) = source_words e
 

@@ -18,7 +18,8 @@ state_word (Some n) = decimal n
 
 -- the states of generation k, in rows
 abbrev pub observed_text : ℕ → System (List ℕ) → List Event → List ℕ
-observed_text k S es = rows_text S.surface.grid (map state_word (readings shown_by S.surface S.start es k))
+observed_text k S es =
+    rows_text S.surface.grid (map state_word (readings shown_by S.surface S.start es k))
 
 -- every name is a cell's or the frame's
 abbrev pub OfCells : System (List ℕ) → Type 0
@@ -30,7 +31,9 @@ IsObserved (Ok p) = OfCells (p.0).system × IsRun (p.0).system.surface (p.0).sys
 IsObserved (Err r) = ⊥
 
 abbrev pub IsObservedText : ℕ → Result (ManifestText × List Event) Refusal → List ℕ → Type 0
-IsObservedText k (Ok p) text = OfCells (p.0).system × IsRun (p.0).system.surface (p.0).system.start p.1 × (text ≡ observed_text k (p.0).system p.1)
+IsObservedText k (Ok p) text =
+    OfCells (p.0).system × IsRun (p.0).system.surface (p.0).system.start p.1
+    × (text ≡ observed_text k (p.0).system p.1)
 IsObservedText k (Err r) text = ⊥
 
 -- the fault of the manifest or the trace, and else a name of another kind
@@ -38,7 +41,8 @@ abbrev pub IsObserveRefused : Result (ManifestText × List Event) Refusal → Re
 IsObserveRefused (Ok p) r = (OfCells (p.0).system → ⊥) × (r ≡ NotCells)
 IsObserveRefused (Err e) r = e ≡ r
 
--- the manifest is one of cells, and the k-th event of the trace is the first that is not enabled at its turn
+-- the manifest is one of cells, and the k-th event of the trace is the first that is not enabled at
+-- its turn
 abbrev pub ObservesBad : Result (ManifestText × List Event) Refusal → ℕ → Type 0
 ObservesBad (Ok p) k = OfCells (p.0).system × FirstBad (p.0).system.surface (p.0).system.start p.1 k
 ObservesBad (Err r) k = ⊥

@@ -83,7 +83,8 @@ IsCircuitRefused input (Bits found wanted) = ⊥
 IsCircuitRefused input (NotInput s) = ⊥
 IsCircuitRefused input (Source e) = ⊥
 
--- why a manifest's inputs are not set: its own fault first, then the legend's, then the number of bits, then a site
+-- why a manifest's inputs are not set: its own fault first, then the legend's, then the number of
+-- bits, then a site
 abbrev pub IsSetRefused : List Bool → List ℕ → Refusal → Type 0
 IsSetRefused bits input (Manifest e) = manifest_of input ≡ Err e
 IsSetRefused bits input (Legend e) = IsOk (manifest_of input) × (legend_of input ≡ Err e)
@@ -126,7 +127,8 @@ abbrev pub ShowsOf : ℕ → Result ManifestText ManifestError → List ℕ → 
 ShowsOf count (Ok m) text = ShowsRun m.system count text
 ShowsOf count (Err e) text = ⊥
 
--- what a job's text shows: a run of the manifest that the input spells, a surface that computes its circuit, or one on which the cells of its automaton keep in step
+-- what a job's text shows: a run of the manifest that the input spells, a surface that computes its
+-- circuit, or one on which the cells of its automaton keep in step
 abbrev pub Shows : Job → List ℕ → List ℕ → Type 0
 Shows (Run seed count) input text = ShowsOf count (manifest_of input) text
 Shows Format input text = Unit {0}

@@ -39,10 +39,12 @@ placed_events w s count = sim_events nat_eq w.surface w.names s count
 
 -- the text of a simulation of a world
 abbrev pub placed_text : (ℕ → List ℕ) → Placed → Stream → ℕ → List ℕ
-placed_text show w s count = trace_text (placed_events w s count) ++ end_text show (left_world w (placed_events w s count))
+placed_text show w s count =
+    trace_text (placed_events w s count) ++ end_text show (left_world w (placed_events w s count))
 
 -- after n of at most count events of a simulation, which began at w and s
-pub record SoFar (w : Placed) (s : Stream) (count n : ℕ) (now : Placed) (t : Stream) (old new : Option (List ℕ)) (held left : List ℕ) : Type 0 where
+pub record SoFar (w : Placed) (s : Stream) (count n : ℕ) (now : Placed) (t : Stream)
+    (old new : Option (List ℕ)) (held left : List ℕ) : Type 0 where
   pub taken : List Event
   pub rest : placed_events w s count ≡ taken ++ placed_events now t (count - n)
   pub world : now ≡ left_world w taken

@@ -42,7 +42,8 @@ events_of S seed count = sim_events bytes_eq S.surface S.start (words_of (seeded
 -- the text of events from the start: their trace, the surface that they leave, and the last word
 abbrev pub text_of_events : System (List ℕ) → List Event → List ℕ
 text_of_events S es =
-    trace_text es ++ state_text S.surface.grid (left_by S.surface S.start es) (last_word S.surface (left_by S.surface S.start es))
+    trace_text es ++ state_text S.surface.grid (left_by S.surface S.start es)
+    (last_word S.surface (left_by S.surface S.start es))
 
 -- what `run` prints
 abbrev pub run_text : System (List ℕ) → ℕ → ℕ → List ℕ
@@ -52,7 +53,8 @@ run_text S seed count = text_of_events S (events_of S seed count)
 abbrev pub LastWord : Surface (List ℕ) → List (List ℕ) → List ℕ → Type 0
 LastWord S c word = (Stuck S c × (word ≡ stuck_text)) ⊎ ((Stuck S c → ⊥) × (word ≡ limit_text))
 
--- a text shows a run: each event is enabled at its turn, there are at most so many and fewer only where the surface that they leave is stuck, and that surface and the right last word follow them
+-- a text shows a run: each event is enabled at its turn, there are at most so many and fewer only
+-- where the surface that they leave is stuck, and that surface and the right last word follow them
 pub record ShowsRun (S : System (List ℕ)) (count : ℕ) (text : List ℕ) : Type 0 where
   pub events : List Event
   pub word : List ℕ
@@ -60,4 +62,5 @@ pub record ShowsRun (S : System (List ℕ)) (count : ℕ) (text : List ℕ) : Ty
   pub at_most : length events ≤ count
   pub fewer : length events < count → Stuck S.surface (left_by S.surface S.start events)
   pub last : LastWord S.surface (left_by S.surface S.start events) word
-  pub is : text ≡ trace_text events ++ state_text S.surface.grid (left_by S.surface S.start events) word
+  pub is : text ≡ trace_text events ++ state_text S.surface.grid (left_by S.surface S.start events)
+      word

@@ -25,4 +25,5 @@ pub record IsSet (bits : List Bool) (input text : List ℕ) : Type 0 where
   pub legend : LegendText
   pub has : HasLegend input manifest legend
   pub fits : set_fault manifest.system legend bits ≡ None
-  pub is : text ≡ print_of (with_system manifest (with_inputs manifest.system legend bits)) (Some legend)
+  pub is : text ≡ print_of (with_system manifest (with_inputs manifest.system legend bits))
+      (Some legend)

@@ -18,7 +18,8 @@ use Rattle.surf_top.specs.declared.status.Refusal.TheVariants.{Manifest, Trace}
 abbrev pub manifest_before : List ℕ → Result ManifestText ManifestError
 manifest_before input = read_from [] (map line_of (before_trace (lines_of input)))
 
-abbrev pub replay_of : Result ManifestText ManifestError → Result (List Event) TraceError → Result (ManifestText × List Event) Refusal
+abbrev pub replay_of : Result ManifestText ManifestError → Result (List Event) TraceError →
+    Result (ManifestText × List Event) Refusal
 replay_of (Err e) t = Err (Manifest e)
 replay_of (Ok m) (Err t) = Err (Trace t)
 replay_of (Ok m) (Ok es) = Ok (m, es)
@@ -37,7 +38,8 @@ IsValid (Ok p) = IsRun (p.0).system.surface (p.0).system.start p.1
 IsValid (Err r) = ⊥
 
 abbrev pub IsValidText : Result (ManifestText × List Event) Refusal → List ℕ → Type 0
-IsValidText (Ok p) text = IsRun (p.0).system.surface (p.0).system.start p.1 × (text ≡ valid_text p.1)
+IsValidText (Ok p) text =
+    IsRun (p.0).system.surface (p.0).system.start p.1 × (text ≡ valid_text p.1)
 IsValidText (Err r) text = ⊥
 
 -- the k-th event of the trace is the first that is not enabled at its turn

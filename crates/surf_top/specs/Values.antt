@@ -25,7 +25,8 @@ pub record HasValues (bits : List Bool) (input : List ℕ) : Type 0 where
   pub accepted : IsAccepted input
   pub enough : length bits ≡ length (parts_of input).inputs
 
--- the text tells the outputs' values in the one assignment that solves the circuit's equations with these bits at its inputs
+-- the text tells the outputs' values in the one assignment that solves the circuit's equations with
+-- these bits at its inputs
 pub record TellsValues (bits : List Bool) (input text : List ℕ) : Type 0 where
   pub accepted : IsAccepted input
   pub values : List Bool

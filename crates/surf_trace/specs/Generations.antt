@@ -41,5 +41,6 @@ if_shown None state = None
 if_shown (Some s) state = state
 
 -- what is read off p as generation k: nothing for ever where nothing is shown there at first
-abbrev pub read_off : {N : Type 0} → (N → Option Showing) → Surface N → List N → List Event → ℕ → ℕ → Option ℕ
+abbrev pub read_off : {N : Type 0} → (N → Option Showing) → Surface N → List N → List Event → ℕ →
+    ℕ → Option ℕ
 read_off show S c es p k = if_shown (shown_at show (slice_get c p)) (observed show S c es p k)

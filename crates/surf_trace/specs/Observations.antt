@@ -16,7 +16,8 @@ abbrev pub shown_in : List (List ℕ) → ℕ → Option Showing
 shown_in texts m = shown_by (text_of texts m)
 
 -- what is read off each place as generation k
-abbrev pub readings : {N : Type 0} → (N → Option Showing) → Surface N → List N → List Event → ℕ → List (Option ℕ)
+abbrev pub readings : {N : Type 0} → (N → Option Showing) → Surface N → List N → List Event → ℕ →
+    List (Option ℕ)
 readings show S c es k = map (λ p. read_off show S c es p k) (range_with_len 0 (length c))
 
 -- the name is a cell's or the frame's
@@ -39,7 +40,8 @@ pub record AllNamed {N : Type 0} (P : N → Type 0) (S : Surface N) (c : List N)
 abbrev pub AreCells : List (List ℕ) → Surface ℕ → List ℕ → Type 0
 AreCells texts S c = AllNamed (λ m. is_cell (text_of texts m) ≡ true) S c
 
--- why nothing is read off: some name is of another kind, or else an event is not enabled at its turn; memory may fail
+-- why nothing is read off: some name is of another kind, or else an event is not enabled at its
+-- turn; memory may fail
 abbrev pub Hinders : List (List ℕ) → Surface ℕ → List ℕ → List Event → ObserveError → Type 0
 Hinders texts S c es NotCells = AreCells texts S c → ⊥
 Hinders texts S c es (NotEnabled k) = AreCells texts S c × FirstBad S c es k

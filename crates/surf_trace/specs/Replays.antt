@@ -6,8 +6,10 @@ use Rattle.surf_world.specs.Worlds.{Placed}
 use Rattle.surf_trace.specs.declared.verdict.Verdict.{Verdict}
 use Rattle.surf_trace.specs.declared.verdict.Verdict.TheVariants.{Valid, NotEnabled}
 
--- the events before the k-th are a run, and the k-th is not enabled after them; events are counted from 1
-pub record FirstBad {N : Type 0} (S : Surface N) (c : List N) (es : List Event) (k : ℕ) : Type 0 where
+-- the events before the k-th are a run, and the k-th is not enabled after them; events are counted
+-- from 1
+pub record FirstBad {N : Type 0} (S : Surface N) (c : List N) (es : List Event) (k : ℕ) :
+    Type 0 where
   pub counted : 1 ≤ k
   pub run : IsRun S c (take (k - 1) es)
   pub event : Event

@@ -39,29 +39,36 @@ event_of n [] = None
 event_of n (k ∷ []) = None
 event_of n (k ∷ r ∷ []) = None
 event_of n (k ∷ r ∷ x ∷ []) = None
-event_of n (k ∷ r ∷ x ∷ y ∷ ts) = if is_number n (decimal_of k) then event_from (decimal_below (2 ^ 32) r) (site_of x y) (second_of ts) else None
+event_of n (k ∷ r ∷ x ∷ y ∷ ts) =
+    if is_number n (decimal_of k) then event_from (decimal_below (2 ^ 32) r) (site_of x y)
+    (second_of ts) else None
 
 -- an empty line, or one that begins with # or %
 abbrev pub is_skipped : List ℕ → Bool
 is_skipped [] = true
 is_skipped (b ∷ bs) = (b == 35) || (b == 37)
 
-abbrev pub event_then : Option Event → ℕ → (Event → Result (List Event) TraceError) → Result (List Event) TraceError
+abbrev pub event_then : Option Event → ℕ → (Event → Result (List Event) TraceError) →
+    Result (List Event) TraceError
 event_then None line more = Err (BadTrace line)
 event_then (Some e) line more = more e
 
--- the events of a block whose next lines these are, where so many lines and these events stand before them
+-- the events of a block whose next lines these are, where so many lines and these events stand
+-- before them
 abbrev pub block_of : ℕ → ℕ → List Event → List (List ℕ) → Result (List Event) TraceError
 block_of opened line es [] = Err (Unclosed opened)
 block_of opened line es (l ∷ ls) =
     if bytes_eq (trimmed l) (codes "!END_TRACE") then Ok es
     else if is_skipped (trimmed l) then block_of opened (line + 1) es ls
-    else event_then (event_of (length es + 1) (tokens_of (trimmed l))) (line + 1) (λ e. block_of opened (line + 1) (es ++ e ∷ []) ls)
+    else event_then (event_of (length es + 1) (tokens_of (trimmed l))) (line + 1)
+    (λ e. block_of opened (line + 1) (es ++ e ∷ []) ls)
 
 -- the events of the first block in these lines, where so many lines stand before them
 abbrev pub trace_in : ℕ → List (List ℕ) → Result (List Event) TraceError
 trace_in line [] = Err NoTrace
-trace_in line (l ∷ ls) = if bytes_eq (trimmed l) (codes "!START_TRACE") then block_of (line + 1) (line + 1) [] ls else trace_in (line + 1) ls
+trace_in line (l ∷ ls) =
+    if bytes_eq (trimmed l) (codes "!START_TRACE") then block_of (line + 1) (line + 1) [] ls
+    else trace_in (line + 1) ls
 
 -- the events of a text's trace block, or its first fault; lines are counted from 1
 abbrev pub trace_of : List ℕ → Result (List Event) TraceError

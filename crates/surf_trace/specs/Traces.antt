@@ -13,7 +13,8 @@ second_text (Some q) = site_text q
 
 -- the line of an event: its place in the run, its rule and its sites
 abbrev pub event_text : ℕ → Event → List ℕ
-event_text n e = decimal n ++ 32 ∷ decimal e.rule ++ site_text e.first ++ second_text e.second ++ 10 ∷ []
+event_text n e =
+    decimal n ++ 32 ∷ decimal e.rule ++ site_text e.first ++ second_text e.second ++ 10 ∷ []
 
 -- the lines of events that follow the first n
 abbrev pub events_text : ℕ → List Event → List ℕ

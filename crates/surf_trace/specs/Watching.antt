@@ -25,11 +25,13 @@ abbrev pub noted : Kept → Option Showing → Option Showing → Kept
 noted x a b = if changed a b == 0 then x else counted x.left x.state (state_of b)
 
 -- what the events then give
-abbrev pub told_from : {N : Type 0} → (N → Option Showing) → Surface N → List N → List Event → ℕ → ℕ → Option ℕ → Option ℕ
+abbrev pub told_from : {N : Type 0} → (N → Option Showing) → Surface N → List N → List Event → ℕ →
+    ℕ → Option ℕ → Option ℕ
 told_from show S c es p zero state = state
 told_from show S c es p (suc n) state = observed show S c es p (suc n)
 
-abbrev pub told : {N : Type 0} → (N → Option Showing) → Surface N → List N → List Event → ℕ → Kept → Option ℕ
+abbrev pub told : {N : Type 0} → (N → Option Showing) → Surface N → List N → List Event → ℕ → Kept →
+    Option ℕ
 told show S c es p x = told_from show S c es p x.left x.state
 
 -- there is no state before the last change

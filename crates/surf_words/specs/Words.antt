@@ -68,7 +68,8 @@ abbrev pub two_words : List ℕ → List ℕ → Option Spoken
 two_words w a =
     if bytes_eq w (codes "eval") then option_map Eval (bits_of a)
     else (if bytes_eq w (codes "set") then option_map Set (bits_of a)
-    else (if bytes_eq w (codes "automaton") then option_map (λ m. Automaton m None) (number_of 0 1000 a)
+    else (if bytes_eq w (codes "automaton") then option_map (λ m. Automaton m None)
+    (number_of 0 1000 a)
     else (if bytes_eq w (codes "step") then option_map Step (number_of 0 1000000 a)
     else (if bytes_eq w (codes "observe") then option_map Observe (decimal_of a)
     else None))))
@@ -80,7 +81,8 @@ demo_words w a =
     else None)
 
 abbrev pub run_words : List ℕ → List ℕ → Option Spoken
-run_words seed count = option_and_then (λ s. option_map (λ n. Run s n) (decimal_of count)) (decimal_of seed)
+run_words seed count =
+    option_and_then (λ s. option_map (λ n. Run s n) (decimal_of count)) (decimal_of seed)
 
 abbrev pub automaton_words : List ℕ → List ℕ → Option Spoken
 automaton_words margin last =
