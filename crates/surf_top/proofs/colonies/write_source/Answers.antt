@@ -1,4 +1,4 @@
-use Rattle.std.proofs.Common.{◌≡◌, Ok, None, Result, Option, List, ℕ, ap, subst, sym, ◌∙◌}
+use Rattle.std.proofs.Common.{Ok, None, ap, subst, sym, ◌∙◌}
 use Rattle.surf_auto.specs.Sync.{Universe, box_of, universe}
 use Rattle.surf_colony.specs.InStep.{KeepsInStep}
 use Rattle.surf_manifest_print.specs.Prints.{print_of}
