@@ -14,3 +14,5 @@ pub mod Faults
 pub mod Finals
 pub mod Observed
 pub mod ReadInStep
+pub mod ShortEvents
+pub mod ReadBack

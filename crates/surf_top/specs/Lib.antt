@@ -7,6 +7,7 @@ pub mod Automata
 pub mod Compiled
 pub mod Sets
 pub mod Traced
+pub mod ReadBack
 pub mod Finals
 pub mod Observed
 pub mod Outputs

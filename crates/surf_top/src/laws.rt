@@ -1,5 +1,6 @@
 // Laws of the texts that commands write, each the contract of a function that does nothing.
 ghost use Rattle.surf_top.specs.CircuitLaws.{SurfacesAreSet};
+ghost use Rattle.surf_top.specs.ReadBack.{AreReadBack, PrintsAreReadBack, PrintsEndLines, RunsAreReadBack};
 ghost use Rattle.surf_top.specs.Watched.{AreReadInStep};
 
 /// What `circuit` writes can be set to as many bits as there are inputs. What `set` then writes is
@@ -14,4 +15,15 @@ pub fn surfaces_are_set()
 /// come so far, and none where it has not and where no cell stands.
 pub fn cells_are_observed()
     ensures { AreReadInStep }
+{}
+
+/// A manifest's text that ends with a line feed, with the trace block of fewer than 2^64 events
+/// behind it, is read as the manifest and these events, whatever follows them, and its legend is
+/// the text's own. So it is with what `run` prints of it. What is printed ends with a line feed, so
+/// each manifest that is printed is read back, and with the legend printed with it.
+pub fn runs_are_read_back()
+    ensures texts { AreReadBack }
+    ensures runs { RunsAreReadBack }
+    ensures prints { PrintsAreReadBack }
+    ensures ended { PrintsEndLines }
 {}
