@@ -17,7 +17,9 @@ impl Printer {
     fn put_side(&mut self, names: &Names, first: u32, second: Option<u32>) -> Result<(), NoMemory>
         requires first { first < length names.now }
         requires second { IfSome second (λ k. k < length names.now) }
-        ensures { OnOk result (self.new ≡ self.old ++ spaced (side_tokens (text_of names.now first) (option_map (text_of names.now) second))) }
+        ensures { OnOk result
+            (self.new ≡ self.old ++ spaced (side_tokens (text_of names.now first)
+            (option_map (text_of names.now) second))) }
     {
         self.put_name(names, first)?;
         if let Some(second) = second {
@@ -30,7 +32,8 @@ impl Printer {
     // Appends what a rule takes and what it leaves.
     fn put_sides(&mut self, names: &Names, rule: &Rule) -> Result<(), NoMemory>
         requires { RuleBelow (length names.now) (rule_of rule.now) }
-        ensures { OnOk result (self.new ≡ self.old ++ spaced (rule_tokens (named_rule names.now rule.now))) }
+        ensures { OnOk result
+            (self.new ≡ self.old ++ spaced (rule_tokens (named_rule names.now rule.now))) }
     {
         self.put_side(names, rule.left, rule.right)?;
         self.put(b" -> ")?;
@@ -50,7 +53,8 @@ impl Printer {
     // Appends the line of a rule.
     fn put_rule(&mut self, names: &Names, rule: &Rule) -> Result<(), NoMemory>
         requires { RuleBelow (length names.now) (rule_of rule.now) }
-        ensures { OnOk result (self.new ≡ self.old ++ (rule_text (named_rule names.now rule.now) ++ 10 ∷ [])) }
+        ensures { OnOk result
+            (self.new ≡ self.old ++ (rule_text (named_rule names.now rule.now) ++ 10 ∷ [])) }
     {
         self.put_bracketed(rule.rate)?;
         self.put_sides(names, rule)?;
@@ -60,7 +64,9 @@ impl Printer {
     // Appends the lines of rules, in their order.
     fn put_rules(&mut self, names: &Names, rules: &[Rule]) -> Result<(), NoMemory>
         requires { RulesBelow (length names.now) rules.now }
-        ensures { OnOk result (self.new ≡ self.old ++ ended (map (λ r. rule_text (named_rule names.now r)) rules.now)) }
+        ensures { OnOk result
+            (self.new ≡ self.old
+            ++ ended (map (λ r. rule_text (named_rule names.now r)) rules.now)) }
     {
         for rule in rules {
             self.put_rule(names, rule)?;
@@ -71,7 +77,10 @@ impl Printer {
     /// Appends the block of the rules.
     pub fn put_rule_block(&mut self, names: &Names, rules: &[Rule]) -> Result<(), NoMemory>
         requires { RulesBelow (length names.now) rules.now }
-        ensures { OnOk result (self.new ≡ self.old ++ ended (codes "!START_TRANSITION_RULES" ∷ (map rule_text (map (named_rule names.now) rules.now) ++ (codes "!END_TRANSITION_RULES" ∷ [])))) }
+        ensures { OnOk result
+            (self.new ≡ self.old ++ ended (codes "!START_TRANSITION_RULES"
+            ∷ (map rule_text (map (named_rule names.now) rules.now)
+            ++ (codes "!END_TRANSITION_RULES" ∷ [])))) }
     {
         self.put_line(b"!START_TRANSITION_RULES")?;
         self.put_rules(names, rules)?;
