@@ -98,7 +98,7 @@ module _ (input : List ℕ) (m : ManifestText) (read : manifest_before input ≡
     outside_ends s w out = both_read ∙ ap (λ o. recorded_inside m l o (trace_of input)) out
 
     module _ (inside : first_outside m.system.surface.grid l.outputs ≡ None) where
-      all_read : recorded input ≡ recorded_events m l (trace_of input)
+      pub all_read : recorded input ≡ recorded_events m l (trace_of input)
       all_read = both_read ∙ ap (λ o. recorded_inside m l o (trace_of input)) inside
 
       pub no_trace : (w : Writes) → w.now ≡ w.before → (e : TraceError) → Refuses (trace_of input) e → EndsJob Outputs input w (answer_to_trace e)

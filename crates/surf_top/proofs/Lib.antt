@@ -16,3 +16,4 @@ pub mod Observed
 pub mod ReadInStep
 pub mod ShortEvents
 pub mod ReadBack
+pub mod CircuitsRound

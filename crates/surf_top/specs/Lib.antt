@@ -16,4 +16,5 @@ pub mod Notes
 pub mod Prints
 pub mod Commands
 pub mod CircuitLaws
+pub mod CircuitsRound
 pub mod Watched

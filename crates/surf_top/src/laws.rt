@@ -1,5 +1,6 @@
 // Laws of the texts that commands write, each the contract of a function that does nothing.
 ghost use Rattle.surf_top.specs.CircuitLaws.{SurfacesAreSet};
+ghost use Rattle.surf_top.specs.CircuitsRound.{CircuitsGoRound};
 ghost use Rattle.surf_top.specs.ReadBack.{AreReadBack, PrintsAreReadBack, PrintsEndLines, RunsAreReadBack};
 ghost use Rattle.surf_top.specs.Watched.{AreReadInStep};
 
@@ -26,4 +27,11 @@ pub fn runs_are_read_back()
     ensures runs { RunsAreReadBack }
     ensures prints { PrintsAreReadBack }
     ensures ended { PrintsEndLines }
+{}
+
+/// What `circuit` writes, set to bits and with any run of it to its end behind it, is read by
+/// `outputs` as exactly the lines that `eval` writes for these bits. So it is with what `run` prints,
+/// if it may take as many events as the legend says.
+pub fn circuits_go_round()
+    ensures { CircuitsGoRound }
 {}
