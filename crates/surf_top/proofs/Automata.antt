@@ -2,10 +2,11 @@
 use Rattle.std.proofs.Common.{ℕ, ◌≡◌, ◌≤◌, arith, List, Option, Some, None, Result, Ok, Err, IfOk, MatchResult, is_ok, refl, sym, ◌∙◌, ap, subst}
 use Rattle.std.proofs.lemmas.Bool.{false≢true}
 use Rattle.surf_lattice.specs.Grids.{Grid}
+use Rattle.surf_world.specs.Systems.{System}
 use Rattle.surf_auto.specs.Counts.{Counts}
 use Rattle.surf_auto.specs.Locals.{rule_count}
 use Rattle.surf_auto.specs.Sync.{IsUniverse, Universe, universe}
-use Rattle.surf_colony.specs.Colonies.{StartsWithin}
+use Rattle.surf_colony.specs.Colonies.{StartsWithin, framed, printed}
 use Rattle.surf_colony.specs.InStep.{KeepsInStep}
 use Rattle.surf_manifest.specs.Grammar.{ManifestText, manifest_of}
 use Rattle.surf_manifest_print.specs.Prints.{print_of}
@@ -24,6 +25,14 @@ mapped (Ok x) s P Q is same p = subst (λ t. IfOk t P) (sym is) p
 mapped (Err e) (Ok y) P Q is same p = absurd (false≢true (sym same))
 mapped (Err e) (Err f) P Q is same p = tt
 
+frame_of : {X F : Type 0} (r : Result X F) (of : X → System (List ℕ)) (U : Universe) (last : Option ℕ) → IfOk r (λ m. of m ≡ printed U last) → IfOk r (λ m. (of m).surface.grid ≡ framed U.grid)
+frame_of (Ok m) of U last is = ap (λ (S : System (List ℕ)). S.surface.grid) is
+frame_of (Err f) of U last is = tt
+
+-- a colony is on the framed grid
+pub on_frame : {X E F : Type 0} (r : Result X E) (s : Result X F) (of : X → System (List ℕ)) (U : Universe) (last : Option ℕ) (Q : E → Type 0) → MatchResult r (λ x. s ≡ Ok x) Q → is_ok s ≡ is_ok r → IfOk r (λ m. of m ≡ printed U last) → IfOk s (λ m. (of m).surface.grid ≡ framed U.grid)
+on_frame r s of U last Q is same colony = frame_of s of U last (mapped r s (λ m. of m ≡ printed U last) Q is same colony)
+
 -- the surface of a source is that of its universe
 pub same_print : (last : Option ℕ) (S : Source) → printed_colony last (Ok S) ≡ printed_colony last (Ok (Plain (universe_of S)))
 same_print None S = refl
@@ -34,8 +43,8 @@ module _ (margin : ℕ) (last : Option ℕ) (input : List ℕ) (S : Source) (spe
   pub output_is : (r : Result (List ℕ) Refusal) → printed_colony last (Ok S) ≡ r → printed_colony last (source_of margin input) ≡ r
   output_is r is = ap (printed_colony last) spelled ∙ is
 
-  pub holds : (m : ManifestText) → KeepsInStep (universe_of S) (in_phases (universe_of S) last) m.system → ShowsSteps S → manifest_of (print_of m None) ≡ Ok m → HoldsColony margin last input (print_of m None)
-  holds m in_step steps read = record { source = S; spelled = spelled; manifest = m; read = read; in_step = in_step; steps = steps }
+  pub holds : (m : ManifestText) → m.system.surface.grid ≡ framed (universe_of S).grid → KeepsInStep (universe_of S) (in_phases (universe_of S) last) m.system → ShowsSteps S → manifest_of (print_of m None) ≡ Ok m → HoldsColony margin last input (print_of m None)
+  holds m grid in_step steps read = record { source = S; spelled = spelled; manifest = m; read = read; grid = grid; in_step = in_step; steps = steps }
 
 -- a universe shows its own steps
 pub plain_steps : (U : Universe) → ShowsSteps (Plain U)

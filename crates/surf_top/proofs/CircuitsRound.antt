@@ -18,7 +18,7 @@ use Rattle.surf_circuit.specs.Circuits.{ShowsAt, SettlesTo}
 use Rattle.surf_circuit.specs.Inputs.{bit_name, with_inputs, with_system}
 use Rattle.surf_trace.specs.Traces.{trace_text}
 use Rattle.surf_top.specs.CircuitLaws.{SetsAndSettles}
-use Rattle.surf_top.specs.CircuitsRound.{TellsEnds, TellsRuns, RunsTell, CircuitsGoRound}
+use Rattle.surf_top.specs.CircuitsRound.{TellsEnds, TellsRuns, RunsTell, CircuitsAreCarried}
 use Rattle.surf_top.specs.Compiled.{HoldsCircuit}
 use Rattle.surf_top.specs.Finals.{final_byte, finals_text, first_outside, recorded, recorded_events, IsEndedText}
 use Rattle.surf_top.specs.Jobs.{Outputs}
@@ -165,5 +165,5 @@ module _ (input surface set : List ℕ) (bits : List Bool) (h : HoldsCircuit (pa
   told : RunsTell set lines
   told = subst (λ s. RunsTell s lines) set_is (record { manifest = law.manifest; legend = law.legend; has = law.has; ends = ends; runs = runs })
 
-pub circuits_go_round : CircuitsGoRound
-circuits_go_round input surface set lines bits h is_set t = told input surface set bits h is_set lines t
+pub circuits_are_carried_round : CircuitsAreCarried
+circuits_are_carried_round input surface set lines bits h is_set t = told input surface set bits h is_set lines t

@@ -17,3 +17,5 @@ pub mod ReadInStep
 pub mod ShortEvents
 pub mod ReadBack
 pub mod CircuitsRound
+pub mod Margins
+pub mod AutomataRound

@@ -36,7 +36,7 @@ pub record RunsTell (text lines : List ℕ) : Type 0 where
 
 -- what `circuit` writes for an input, set to bits and run, gives the lines that `eval` writes for
 -- these bits
-abbrev pub CircuitsGoRound : Type 0
-CircuitsGoRound =
+abbrev pub CircuitsAreCarried : Type 0
+CircuitsAreCarried =
     (input surface set lines : List ℕ) (bits : List Bool) → Shows Circuit input surface →
     IsText (Set bits) surface set → IsText (Eval bits) input lines → RunsTell set lines

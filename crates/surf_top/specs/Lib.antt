@@ -18,3 +18,4 @@ pub mod Commands
 pub mod CircuitLaws
 pub mod CircuitsRound
 pub mod Watched
+pub mod AutomataRound

@@ -4,7 +4,7 @@ ghost use Rattle.surf_auto.specs.Lines.{is_table};
 ghost use Rattle.surf_auto.specs.Locals.{rule_count};
 ghost use Rattle.surf_auto.specs.Sync.{box_of, universe};
 ghost use Rattle.surf_auto.specs.declared.error.SourceError.TheVariants as sources;
-ghost use Rattle.surf_colony.specs.Colonies.{StartsWithin};
+ghost use Rattle.surf_colony.specs.Colonies.{StartsWithin, framed};
 ghost use Rattle.surf_colony.specs.InStep.{KeepsInStep};
 ghost use Rattle.surf_manifest.specs.Grammar.{manifest_of};
 ghost use Rattle.surf_manifest_print.specs.Prints.{print_of};
@@ -54,6 +54,9 @@ fn compile_ending<L: Local>(
         let U = universe (box_of a.kind a.wrap a.width a.height) (L.rule a.local) a.edge
         a.cells.items in
         IfOk result (λ m. KeepsInStep U (in_phases U (Some last)) m.text.system) }
+    ensures framed { let a = automaton.now in
+        IfOk result (λ m. m.text.system.surface.grid
+        ≡ framed (box_of a.kind a.wrap a.width a.height)) }
     ensures refused { let a = automaton.now in
         let U = universe (box_of a.kind a.wrap a.width a.height) (L.rule a.local) a.edge
         a.cells.items in
@@ -87,6 +90,9 @@ fn compile<L: Local>(
         let U = universe (box_of a.kind a.wrap a.width a.height) (L.rule a.local) a.edge
         a.cells.items in
         IfOk result (λ m. KeepsInStep U (in_phases U last) m.text.system) }
+    ensures framed { let a = automaton.now in
+        IfOk result (λ m. m.text.system.surface.grid
+        ≡ framed (box_of a.kind a.wrap a.width a.height)) }
     ensures refused { let a = automaton.now in
         let U = universe (box_of a.kind a.wrap a.width a.height) (L.rule a.local) a.edge
         a.cells.items in

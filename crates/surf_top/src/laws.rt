@@ -1,6 +1,7 @@
 // Laws of the texts that commands write, each the contract of a function that does nothing.
+ghost use Rattle.surf_top.specs.AutomataRound.{RunsAreCarried, TracesAreCarried};
 ghost use Rattle.surf_top.specs.CircuitLaws.{SurfacesAreSet};
-ghost use Rattle.surf_top.specs.CircuitsRound.{CircuitsGoRound};
+ghost use Rattle.surf_top.specs.CircuitsRound.{CircuitsAreCarried};
 ghost use Rattle.surf_top.specs.ReadBack.{AreReadBack, PrintsAreReadBack, PrintsEndLines, RunsAreReadBack};
 ghost use Rattle.surf_top.specs.Watched.{AreReadInStep};
 
@@ -32,6 +33,16 @@ pub fn runs_are_read_back()
 /// What `circuit` writes, set to bits and with any run of it to its end behind it, is read by
 /// `outputs` as exactly the lines that `eval` writes for these bits. So it is with what `run` prints,
 /// if it may take as many events as the legend says.
-pub fn circuits_go_round()
-    ensures { CircuitsGoRound }
+pub fn circuits_are_carried_round()
+    ensures { CircuitsAreCarried }
+{}
+
+/// An automaton carried round. What `automaton` prints, without a margin or on a torus, with a
+/// recorded run of fewer than 2^64 events behind it, or with what `run` prints of it, is read as
+/// that run. What `observe` then writes for the generation of K steps, which is K times the phases
+/// of the rule, has at each cell that has come so far the word that `step K` writes there for the
+/// text of the automaton, and `-` at each other cell and at the frame.
+pub fn automata_are_carried_round()
+    ensures traces { TracesAreCarried }
+    ensures runs { RunsAreCarried }
 {}

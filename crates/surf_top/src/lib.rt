@@ -27,7 +27,10 @@ mod top;
 mod words;
 
 pub use job::Job;
-pub use laws::{cells_are_observed, circuits_go_round, runs_are_read_back, surfaces_are_set};
+pub use laws::{
+    automata_are_carried_round, cells_are_observed, circuits_are_carried_round, runs_are_read_back,
+    surfaces_are_set,
+};
 pub use reasons::note;
 pub use status::{Refusal, Status};
 pub use top::surf;

@@ -1,7 +1,7 @@
 use Rattle.std.proofs.Common.{◌*◌, Some}
 use Rattle.surf_auto.specs.Sync.{Universe, box_of, universe}
 use Rattle.surf_colony.specs.InStep.{KeepsInStep}
-use Rattle.surf_top.proofs.Automata.{mapped}
+use Rattle.surf_top.proofs.Automata.{mapped, on_frame}
 use Rattle.surf_top.proofs.colonies.compile_ending.Goals as goal
 
 pub returns-clause-in_step : goal.returns-clause-in_step
@@ -9,3 +9,9 @@ returns-clause-in_step g c =
     let a = c.args.automaton.now in
     let U : Universe = universe (box_of a.kind a.wrap a.width a.height) (g.L.Local.rule a.local) a.edge a.cells.items in
     mapped c.compile_last.result c.map_err.result (λ m. KeepsInStep U (Some (c.args.last * U.rule.phases)) m.text.system) _ c.map_err.ensures.cases c.map_err.ensures.variant c.compile_last.ensures.in_step
+
+pub returns-clause-framed : goal.returns-clause-framed
+returns-clause-framed g c =
+    let a = c.args.automaton.now in
+    let U : Universe = universe (box_of a.kind a.wrap a.width a.height) (g.L.Local.rule a.local) a.edge a.cells.items in
+    on_frame c.compile_last.result c.map_err.result (λ m. m.text.system) U (Some (c.args.last * U.rule.phases)) _ c.map_err.ensures.cases c.map_err.ensures.variant c.compile_last.ensures.colony
