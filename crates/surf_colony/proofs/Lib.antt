@@ -8,10 +8,10 @@ mod Synchrony
 mod Pace
 mod Runs
 mod Boards
-mod Built
+pub mod Built
 mod Texts
 mod Observed
-mod Printed
-mod Starts
+pub mod Printed
+pub mod Starts
 mod Slots
-mod Compiled
+pub mod Compiled

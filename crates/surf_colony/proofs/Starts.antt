@@ -112,7 +112,7 @@ mark_name (Cell c) h =
     digit_name (decimal c.current) rest s.some s.digits
     (bar c.current _ h.current (bar c.generation _ h.generation (bar c.colour _ h.colour (bar c.previous _ h.previous (bar c.reads _ h.reads (plain_decimal c.acc h.acc))))))
 
-first_small : (U : Universe) → IsUniverse U → (s : Site) (b : Bool) → in_box U.grid s ≡ b → IsSmallMark (first_mark U s)
+pub first_small : (U : Universe) → IsUniverse U → (s : Site) (b : Bool) → in_box U.grid s ≡ b → IsSmallMark (first_mark U s)
 first_small U is s true e =
     let some = is.is_local.some_phase in
     let state = state_within U is s e in

@@ -7,7 +7,7 @@ use Rattle.surf_auto.specs.Counts.{Counts}
 use Rattle.surf_auto.specs.Locals.{rule_count}
 use Rattle.surf_auto.specs.Sync.{IsUniverse, Universe, universe}
 use Rattle.surf_colony.specs.Colonies.{StartsWithin, framed, printed}
-use Rattle.surf_colony.specs.InStep.{KeepsInStep}
+use Rattle.surf_colony.specs.InStep.{IsLast, KeepsInStep}
 use Rattle.surf_manifest.specs.Grammar.{ManifestText, manifest_of}
 use Rattle.surf_manifest_print.specs.Prints.{print_of}
 use Rattle.surf_life.specs.Halves.{moore_rule}
@@ -17,6 +17,8 @@ use Rattle.surf_life.proofs.Rules.{starts_in_both}
 use Rattle.surf_rle.specs.Sources.{Source, Plain, Eight, ShowsSteps, universe_of}
 use Rattle.surf_top.specs.Automata.{HoldsColony, in_phases, printed_colony}
 use Rattle.surf_top.specs.Generations.{source_of}
+use Rattle.surf_top.specs.Observed.{OfCells}
+use Rattle.surf_top.proofs.CellNames.{colony_of_cells}
 use Rattle.surf_top.specs.declared.status.Refusal.{Refusal}
 
 -- what holds of a value holds where only the error is another
@@ -33,6 +35,14 @@ frame_of (Err f) of U last is = tt
 pub on_frame : {X E F : Type 0} (r : Result X E) (s : Result X F) (of : X → System (List ℕ)) (U : Universe) (last : Option ℕ) (Q : E → Type 0) → MatchResult r (λ x. s ≡ Ok x) Q → is_ok s ≡ is_ok r → IfOk r (λ m. of m ≡ printed U last) → IfOk s (λ m. (of m).surface.grid ≡ framed U.grid)
 on_frame r s of U last Q is same colony = frame_of s of U last (mapped r s (λ m. of m ≡ printed U last) Q is same colony)
 
+cells_of : {X F : Type 0} (r : Result X F) (of : X → System (List ℕ)) (U : Universe) (last : Option ℕ) → OfCells (printed U last) → IfOk r (λ m. of m ≡ printed U last) → IfOk r (λ m. OfCells (of m))
+cells_of (Ok m) of U last cells is = subst OfCells (sym is) cells
+cells_of (Err f) of U last cells is = tt
+
+-- the names of a colony are cells' and the frame's
+pub of_cells : {X E F : Type 0} (r : Result X E) (s : Result X F) (of : X → System (List ℕ)) (U : Universe) (last : Option ℕ) (Q : E → Type 0) → IsUniverse U → StartsWithin U → IsLast last U.rule.phases → MatchResult r (λ x. s ≡ Ok x) Q → is_ok s ≡ is_ok r → IfOk r (λ m. of m ≡ printed U last) → IfOk s (λ m. OfCells (of m))
+of_cells r s of U last Q universe starts whole is same colony = cells_of s of U last (colony_of_cells U last universe starts whole) (mapped r s (λ m. of m ≡ printed U last) Q is same colony)
+
 -- the surface of a source is that of its universe
 pub same_print : (last : Option ℕ) (S : Source) → printed_colony last (Ok S) ≡ printed_colony last (Ok (Plain (universe_of S)))
 same_print None S = refl
@@ -43,8 +53,8 @@ module _ (margin : ℕ) (last : Option ℕ) (input : List ℕ) (S : Source) (spe
   pub output_is : (r : Result (List ℕ) Refusal) → printed_colony last (Ok S) ≡ r → printed_colony last (source_of margin input) ≡ r
   output_is r is = ap (printed_colony last) spelled ∙ is
 
-  pub holds : (m : ManifestText) → m.system.surface.grid ≡ framed (universe_of S).grid → KeepsInStep (universe_of S) (in_phases (universe_of S) last) m.system → ShowsSteps S → manifest_of (print_of m None) ≡ Ok m → HoldsColony margin last input (print_of m None)
-  holds m grid in_step steps read = record { source = S; spelled = spelled; manifest = m; read = read; grid = grid; in_step = in_step; steps = steps }
+  pub holds : (m : ManifestText) → m.system.surface.grid ≡ framed (universe_of S).grid → OfCells m.system → KeepsInStep (universe_of S) (in_phases (universe_of S) last) m.system → ShowsSteps S → manifest_of (print_of m None) ≡ Ok m → HoldsColony margin last input (print_of m None)
+  holds m grid names in_step steps read = record { source = S; spelled = spelled; manifest = m; read = read; grid = grid; names = names; in_step = in_step; steps = steps }
 
 -- a universe shows its own steps
 pub plain_steps : (U : Universe) → ShowsSteps (Plain U)

@@ -129,6 +129,8 @@ module _ (margin : ℕ) (last : Option ℕ) (input text : List ℕ) (h : HoldsCo
       record {
         replayed = back.replayed;
         spelled = spelled;
+        answered = λ k.
+            subst (λ (r : Result (ManifestText × List Event) Refusal). IsObservedText (phases_of h.source k) r (observed_text (phases_of h.source k) h.manifest.system es)) (sym back.replayed) (h.names, run, refl);
         told = λ k observed stepped is so.
             let seen : IsObservedText (phases_of h.source k) (Ok (h.manifest, es)) observed = subst (λ (r : Result (ManifestText × List Event) Refusal). IsObservedText (phases_of h.source k) r observed) back.replayed is in
             let step : printed_generation k (Ok h.source) ≡ Ok stepped = ap (printed_generation k) (sym spelled) ∙ so in

@@ -6,13 +6,14 @@ pub mod Shown
 pub mod Ends
 pub mod Replayed
 pub mod Valued
+pub mod Observed
+pub mod CellNames
 pub mod Automata
 pub mod Surfaces
 pub mod LegendsRead
 pub mod Carried
 pub mod Faults
 pub mod Finals
-pub mod Observed
 pub mod ReadInStep
 pub mod ShortEvents
 pub mod ReadBack

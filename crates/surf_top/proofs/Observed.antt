@@ -52,7 +52,7 @@ module _ {M N : Type 0} (f : M → N) (P : N → Type 0) (S : Surface M) (c : Li
   rule_from : (r : Rule M) → RuleNamed P (renamed_rule f r) → RuleNamed (λ m. P (f m)) r
   rule_from r h = record { left = h.left; right = some_from f P r.right h.right; left_after = h.left_after; right_after = some_from f P r.right_after h.right_after }
 
-  named_to : AllNamed (λ m. P (f m)) S c → AllNamed P (renamed f S) (map f c)
+  pub named_to : AllNamed (λ m. P (f m)) S c → AllNamed P (renamed f S) (map f c)
   named_to h = record {
     in_rules = All-map (RuleNamed P) (renamed_rule f) S.rules (All-weaker (RuleNamed (λ m. P (f m))) (λ r. RuleNamed P (renamed_rule f r)) rule_to S.rules h.in_rules);
     in_names = All-map P f c h.in_names;

@@ -13,6 +13,7 @@ use Rattle.surf_rle.specs.Sources as sources
 use Rattle.surf_top.specs.declared.status.Refusal.{Refusal}
 use Rattle.surf_top.specs.declared.status.Refusal.TheVariants.{Source}
 use Rattle.surf_top.specs.Generations.{source_of}
+use Rattle.surf_top.specs.Observed.{OfCells}
 
 -- a last generation, if one is given, in phases of the automaton's rule
 abbrev pub in_phases : Universe → Option ℕ → Option ℕ
@@ -39,15 +40,16 @@ printed_colony None (Ok S) = Ok (colony_text (universe_of S) None)
 printed_colony (Some last) (Ok S) =
     unless_many (rule_count_in last (universe_of S).rule) (colony_text (universe_of S) (Some last))
 
--- The grammar reads in the text a manifest on the framed grid of what the input spells, in every
--- run of which its cells keep in step: a generation is a phase there, and after all phases of k
--- steps each cell shows what the source shows after k steps.
+-- The grammar reads in the text a manifest on the framed grid of what the input spells, whose names
+-- are cells' and the frame's, and in every run of which the cells keep in step: a generation is a
+-- phase there, and after all phases of k steps each cell shows what the source shows after k steps.
 pub record HoldsColony (margin : ℕ) (last : Option ℕ) (input text : List ℕ) : Type 0 where
   pub source : sources.Source
   pub spelled : source_of margin input ≡ Ok source
   pub manifest : ManifestText
   pub read : manifest_of text ≡ Ok manifest
   pub grid : manifest.system.surface.grid ≡ framed (universe_of source).grid
+  pub names : OfCells manifest.system
   pub in_step :
       KeepsInStep (universe_of source) (in_phases (universe_of source) last) manifest.system
   pub steps : ShowsSteps source

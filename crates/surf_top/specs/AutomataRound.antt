@@ -7,13 +7,15 @@ use Rattle.surf_world.specs.declared.event.Event.{Event}
 use Rattle.surf_world.specs.Systems.{IsRun}
 use Rattle.surf_manifest.specs.Grammar.{ManifestText}
 use Rattle.surf_trace.specs.Traces.{trace_text}
-use Rattle.surf_colony.specs.Colonies.{framed, in_box}
-use Rattle.surf_colony.specs.InStep.{generation_at, place_of}
+use Rattle.surf_auto.specs.Sync.{IsUniverse, Universe}
+use Rattle.surf_colony.specs.Colonies.{StartsWithin, framed, in_box, printed}
+use Rattle.surf_colony.specs.InStep.{IsLast, generation_at, place_of}
 use Rattle.surf_rle.specs.Sources.{universe_of}
 use Rattle.surf_rle.specs.Sources as sources
 use Rattle.surf_top.specs.Automata.{HoldsColony}
 use Rattle.surf_top.specs.Generations.{source_of, source_grid}
 use Rattle.surf_top.specs.Jobs.{Automaton, Observe, Step}
+use Rattle.surf_top.specs.Observed.{OfCells, observed_text}
 use Rattle.surf_top.specs.Outputs.{IsText}
 use Rattle.surf_top.specs.Runs.{rows_text, ShowsRun}
 use Rattle.surf_top.specs.Traced.{replay_input}
@@ -50,15 +52,24 @@ pub record TellsSteps (S : sources.Source) (m : ManifestText) (es : List Event) 
       in_box (source_grid S) t ≡ false →
       slice_get read (place (framed (source_grid S)) t) ≡ Some (codes "-")
 
--- the recorded input is read as this manifest and these events; and whatever `observe` writes for
--- it, it tells the steps that `step` writes for the input that spells S
+-- the recorded input is read as this manifest and these events; `observe` has a text to write for
+-- it; and whatever `observe` writes for it, it tells the steps that `step` writes for the input that
+-- spells S
 pub record IsCarriedRound (S : sources.Source) (m : ManifestText) (input carried : List ℕ)
     (es : List Event) : Type 0 where
   pub replayed : replay_input carried ≡ Ok (m, es)
   pub spelled : source_of 0 input ≡ Ok S
+  pub answered : (k : ℕ) →
+      IsText (Observe (phases_of S k)) carried (observed_text (phases_of S k) m.system es)
   pub told : (k : ℕ) (observed stepped : List ℕ) →
       IsText (Observe (phases_of S k)) carried observed → IsText (Step k) input stepped →
       TellsSteps S m es k observed stepped
+
+-- every name of a colony is a cell's or the frame's
+abbrev pub ColoniesAreOfCells : Type 0
+ColoniesAreOfCells =
+    (U : Universe) (last : Option ℕ) → IsUniverse U → StartsWithin U →
+    IsLast last U.rule.phases → OfCells (printed U last)
 
 -- so it is with each recorded run behind what `automaton` prints, whatever follows
 abbrev pub TracesAreCarried : Type 0

@@ -3,13 +3,13 @@ pub mod Jobs
 pub mod Runs
 pub mod Values
 pub mod Generations
+pub mod Traced
+pub mod Observed
 pub mod Automata
 pub mod Compiled
 pub mod Sets
-pub mod Traced
 pub mod ReadBack
 pub mod Finals
-pub mod Observed
 pub mod Outputs
 pub mod Answers
 pub mod Notes

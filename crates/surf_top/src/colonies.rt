@@ -15,6 +15,7 @@ ghost use Rattle.surf_top.specs.Commands.{EndsJob};
 ghost use Rattle.surf_top.specs.Generations.{source_of};
 ghost use Rattle.surf_top.specs.Jobs as jobs;
 ghost use Rattle.surf_top.specs.Jobs.{IsWithin, Job};
+ghost use Rattle.surf_top.specs.Observed.{OfCells};
 ghost use Rattle.surf_top.specs.Outputs.{IsText, Shows};
 ghost use Rattle.surf_top.specs.declared.status.Refusal.TheVariants as refusals;
 ghost use Rattle.surf_top.specs.Writes.{writes};
@@ -57,6 +58,7 @@ fn compile_ending<L: Local>(
     ensures framed { let a = automaton.now in
         IfOk result (λ m. m.text.system.surface.grid
         ≡ framed (box_of a.kind a.wrap a.width a.height)) }
+    ensures names { IfOk result (λ m. OfCells m.text.system) }
     ensures refused { let a = automaton.now in
         let U = universe (box_of a.kind a.wrap a.width a.height) (L.rule a.local) a.edge
         a.cells.items in
@@ -93,6 +95,7 @@ fn compile<L: Local>(
     ensures framed { let a = automaton.now in
         IfOk result (λ m. m.text.system.surface.grid
         ≡ framed (box_of a.kind a.wrap a.width a.height)) }
+    ensures names { IfOk result (λ m. OfCells m.text.system) }
     ensures refused { let a = automaton.now in
         let U = universe (box_of a.kind a.wrap a.width a.height) (L.rule a.local) a.edge
         a.cells.items in

@@ -1,5 +1,5 @@
 // Laws of the texts that commands write, each the contract of a function that does nothing.
-ghost use Rattle.surf_top.specs.AutomataRound.{RunsAreCarried, TracesAreCarried};
+ghost use Rattle.surf_top.specs.AutomataRound.{ColoniesAreOfCells, RunsAreCarried, TracesAreCarried};
 ghost use Rattle.surf_top.specs.CircuitLaws.{SurfacesAreSet};
 ghost use Rattle.surf_top.specs.CircuitsRound.{CircuitsAreCarried};
 ghost use Rattle.surf_top.specs.ReadBack.{AreReadBack, PrintsAreReadBack, PrintsEndLines, RunsAreReadBack};
@@ -41,8 +41,10 @@ pub fn circuits_are_carried_round()
 /// recorded run of fewer than 2^64 events behind it, or with what `run` prints of it, is read as
 /// that run. What `observe` then writes for the generation of K steps, which is K times the phases
 /// of the rule, has at each cell that has come so far the word that `step K` writes there for the
-/// text of the automaton, and `-` at each other cell and at the frame.
+/// text of the automaton, and `-` at each other cell and at the frame. Every name of a colony is a
+/// cell's or the frame's.
 pub fn automata_are_carried_round()
     ensures traces { TracesAreCarried }
     ensures runs { RunsAreCarried }
+    ensures names { ColoniesAreOfCells }
 {}

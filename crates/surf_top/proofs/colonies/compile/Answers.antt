@@ -2,7 +2,7 @@ use Rattle.std.proofs.Common.{None, sym, subst, ◌≡◌, Option, ℕ, IfOk}
 use Rattle.surf_auto.specs.Sync.{Universe, box_of, universe}
 use Rattle.surf_colony.specs.InStep.{KeepsInStep}
 use Rattle.surf_top.specs.Automata.{in_phases}
-use Rattle.surf_top.proofs.Automata.{mapped, on_frame}
+use Rattle.surf_top.proofs.Automata.{mapped, of_cells, on_frame}
 use Rattle.surf_top.proofs.colonies.compile.Goals as goal
 
 pub returns-in-None-clause-in_step : goal.returns-in-None-clause-in_step
@@ -18,3 +18,9 @@ returns-in-None-clause-framed g c =
     let a = c.args.automaton.now in
     let U : Universe = universe (box_of a.kind a.wrap a.width a.height) (g.L.Local.rule a.local) a.edge a.cells.items in
     on_frame c.compile_automaton.result c.map_err.result (λ m. m.text.system) U None _ c.map_err.ensures.cases c.map_err.ensures.variant c.compile_automaton.ensures.colony
+
+pub returns-in-None-clause-names : goal.returns-in-None-clause-names
+returns-in-None-clause-names g c =
+    let a = c.args.automaton.now in
+    let U : Universe = universe (box_of a.kind a.wrap a.width a.height) (g.L.Local.rule a.local) a.edge a.cells.items in
+    of_cells c.compile_automaton.result c.map_err.result (λ m. m.text.system) U None _ a.stands c.requires.starts tt c.map_err.ensures.cases c.map_err.ensures.variant c.compile_automaton.ensures.colony

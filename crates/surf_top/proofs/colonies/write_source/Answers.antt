@@ -17,4 +17,4 @@ returns-clause-ends g c = λ margin input S spelled same steps.
     let last = c.args.last in
     c.write_manifest.ensures.ends (Automaton margin last) input
     (output_is margin last input S spelled (Ok (print_of m None)) (same_print last S ∙ ap (λ (V : Universe). printed_colony last (Ok (Plain V))) same ∙ c.in-Ok.ensures.text))
-    (λ read. holds margin last input S spelled m (c.in-Ok.ensures.framed ∙ ap (λ (V : Universe). framed V.grid) (sym same)) (subst (λ (V : Universe). KeepsInStep V (in_phases V last) m.system) (sym same) c.in-Ok.ensures.in_step) steps read)
+    (λ read. holds margin last input S spelled m (c.in-Ok.ensures.framed ∙ ap (λ (V : Universe). framed V.grid) (sym same)) c.in-Ok.ensures.names (subst (λ (V : Universe). KeepsInStep V (in_phases V last) m.system) (sym same) c.in-Ok.ensures.in_step) steps read)
