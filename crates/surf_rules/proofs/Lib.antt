@@ -3,3 +3,4 @@ pub mod Cuts
 pub mod Sorts
 pub mod Sides
 pub mod Lists
+pub mod Totals

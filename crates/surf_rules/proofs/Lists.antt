@@ -15,7 +15,7 @@ range_from : (a k : ℕ) → range_with_len a (suc k) ≡ range_with_len a k ++ 
 range_from a zero = let e : a ≡ a + zero = omega arith in ap (λ n. n ∷ []) e
 range_from a (suc k) = ap (λ v. a ∷ v) (range_from (a + 1) k ∙ ap (λ n. range_with_len (a + 1) k ++ n ∷ []) (let e : a + 1 + k ≡ a + suc k = omega arith in e))
 
-range_more : (k : ℕ) → range_with_len 0 (k + 1) ≡ range_with_len 0 k ++ k ∷ []
+pub range_more : (k : ℕ) → range_with_len 0 (k + 1) ≡ range_with_len 0 k ++ k ∷ []
 range_more k = ap (λ n. range_with_len 0 n) (let e : k + 1 ≡ suc k = omega arith in e) ∙ range_from 0 k ∙ ap (λ n. range_with_len 0 k ++ n ∷ []) (let e : 0 + k ≡ k = omega arith in e)
 
 numbers_append : (a r : ℕ) (xs ys : List Entry) → numbers_of a r (xs ++ ys) ≡ numbers_of a r xs ++ numbers_of a r ys

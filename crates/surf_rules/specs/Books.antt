@@ -22,3 +22,7 @@ abbrev pub pair_of : List Rule → ℕ → ℕ → List ℕ
 pair_of rules a b =
     filter (λ k. option_map_or (is_pair a b) (slice_get rules k) false)
     (range_with_len 0 (length rules))
+
+-- the rate of the rule of a number
+abbrev pub rate_in : List Rule → ℕ → ℕ
+rate_in rules k = option_map_or (λ r. r.rate) (slice_get rules k) 0

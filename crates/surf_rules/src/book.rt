@@ -1,10 +1,10 @@
-// Rules that are found by number and by left side.
-ghost use Rattle.std.specs.Prelude.{◌≡◌, ◌≤◌, ◌<◌, All, IfOk, Some, length, slice_get};
-ghost use Rattle.surf_rules.specs.Books.{alone_of, pair_of};
-ghost use Rattle.surf_rules.specs.Sides.{side_of};
+// Rules that are found by number and by left side, and the sums of their rates.
+ghost use Rattle.std.specs.Prelude.{◌≡◌, ◌≢◌, ◌↔◌, ◌≤◌, ◌<◌, ℕ, [], All, IfOk, IsTrue, Some, length, slice_get, sum_by};
+ghost use Rattle.surf_rules.specs.Books.{alone_of, pair_of, rate_in};
 
 use crate::Rule;
-use crate::index::{Index, index_of, part, places, rank, span};
+use crate::listed::ListedRules;
+use crate::sums::{Sums, flag_at, number_at, sums_of};
 use std::alloc::Global;
 use std::marker::Model;
 use surf_base::NoMemory;
@@ -12,22 +12,21 @@ use surf_base::NoMemory;
 /// Rules, found by number and by left side: at most 1,048,576, of rates of at most 10^12.
 #[derive(Drop)]
 pub struct RuleBook {
-    rules: Vec<Rule>,
-    index: Index,
+    listed: ListedRules,
+    sums: Sums,
 }
 
 impl Model for RuleBook {
-    ghost use Rattle.std.specs.Prelude.{List, All, ◌≤◌, length};
+    ghost use Rattle.std.specs.Prelude.{List};
     ghost use Rattle.surf_rules.specs.declared.rule.Rule.{Rule};
-    ghost use Rattle.surf_rules.specs.Sides.{IsIndex};
+    ghost use Rattle.surf_rules.specs.Sums.{AreSums};
 
     ghost Value = { List Rule };
 
-    ghost view = { λ b. b.rules.items };
+    ghost view = { λ b. b.listed };
 
     ghost invariant = { λ b.
-        (length b.rules.items ≤ 1048576) × All (λ r. r.rate ≤ 1000000000000) b.rules.items
-        × IsIndex b.rules.items b.index.starts.items b.index.ranks.items b.index.numbers.items };
+        AreSums b.listed b.sums.alone.items b.sums.paired.items b.sums.side b.sums.table.items };
 }
 
 impl RuleBook {
@@ -37,8 +36,11 @@ impl RuleBook {
         requires rates { All (λ r. r.rate ≤ 1000000000000) rules.items }
         ensures { IfOk result (λ b. b ≡ rules.items) }
     {
-        match index_of(alloc, &rules) {
-            Some(index) => Ok(RuleBook { rules, index }),
+        match sums_of(alloc, &rules) {
+            Some(sums) => {
+                let listed = ListedRules::new(alloc, rules)?;
+                Ok(RuleBook { listed, sums })
+            }
             None => Err(NoMemory),
         }
     }
@@ -49,7 +51,7 @@ impl RuleBook {
         ensures bound { result ≤ 1048576 }
         ensures rates { All (λ r. r.rate ≤ 1000000000000) self.now }
     {
-        self.rules.len() as u32
+        self.listed.len()
     }
 
     /// The rule of a number. Takes no memory.
@@ -58,7 +60,7 @@ impl RuleBook {
         ensures value { slice_get self.now number ≡ Some result.now }
         ensures rate { result.now.rate ≤ 1000000000000 }
     {
-        &self.rules[number as usize]
+        self.listed.rule(number)
     }
 
     /// The numbers of the rules of rate above 0 whose left side is this name alone, rising.
@@ -66,7 +68,7 @@ impl RuleBook {
     pub fn alone(&self, a: u32) -> &[u32]
         ensures { result.now ≡ alone_of self.now a }
     {
-        self.side(a, rank(None))
+        self.listed.alone(a)
     }
 
     /// The numbers of the rules of rate above 0 whose left side is these two names in this
@@ -74,14 +76,36 @@ impl RuleBook {
     pub fn pair(&self, a: u32, b: u32) -> &[u32]
         ensures { result.now ≡ pair_of self.now a b }
     {
-        self.side(a, rank(Some(b)))
+        self.listed.pair(a, b)
     }
 
-    fn side(&self, left: u32, rank: u64) -> &[u32]
-        ensures { result.now ≡ side_of self.now left rank }
+    /// The sum of the rates of the rules whose left side is this name alone.
+    pub fn alone_sum(&self, a: u32) -> u64
+        ensures { result ≡ sum_by (rate_in self.now) (alone_of self.now a) }
     {
-        let of_left = span(&self.index.starts, left);
-        let of_rank = places(part(&self.index.ranks, of_left), rank);
-        part(part(&self.index.numbers, of_left), of_rank)
+        number_at(&self.sums.alone, a as usize)
+    }
+
+    /// The sum of the rates of the rules whose left side is these two names in this order.
+    pub fn pair_sum(&self, a: u32, b: u32) -> u64
+        ensures { result ≡ sum_by (rate_in self.now) (pair_of self.now a b) }
+    {
+        let side = self.sums.side;
+        if side == 0 {
+            return self.listed.pair_sum(a, b);
+        }
+        let left = a as usize;
+        let right = b as usize;
+        if left < side && right < side {
+            return self.sums.table[left * side + right];
+        }
+        0
+    }
+
+    /// Whether a rule of rate above 0 has this name as the first of two.
+    pub fn is_paired(&self, a: u32) -> bool
+        ensures { IsTrue result ↔ ((b : ℕ) × (pair_of self.now a b ≢ [])) }
+    {
+        flag_at(&self.sums.paired, a as usize)
     }
 }

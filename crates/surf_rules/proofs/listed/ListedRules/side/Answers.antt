@@ -2,7 +2,7 @@ use Rattle.std.proofs.Common.{◌≡◌, ◌∙◌, ap, sym, subst, ℕ, List, �
 use Rattle.std.specs.List.Sorted.{IsNonDecreasing}
 use Rattle.surf_rules.specs.Sides.{side_of, span_of, IsStart}
 use Rattle.surf_rules.proofs.Sides.{order, part_rises, side_is}
-use Rattle.surf_rules.proofs.book.RuleBook.side.Goals as goal
+use Rattle.surf_rules.proofs.listed.ListedRules.side.Goals as goal
 
 -- a fact of a list is one of a list that is the same
 first_of : (key : ℕ) (xs ys : List ℕ) (place : ℕ) → xs ≡ ys → IsStart (λ (m : ℕ). m) key xs place → IsStart (λ (m : ℕ). m) key ys place
