@@ -4,56 +4,12 @@ use Rattle.std.specs.Prelude.{slice_index_or}
 use Rattle.std.proofs.lemmas.List.{take_all}
 use Rattle.std.proofs.lemmas.Option.{slice_get_past}
 use Rattle.surf_tiles.specs.declared.kind.Kind.{Kind}
-use Rattle.surf_tiles.specs.declared.kind.Kind.TheVariants.{Empty, Input, Value, Wire, A, B, H, V, P, Q, Gate1, Gate2, Centre}
 use Rattle.surf_tiles.specs.Kinds.{name_of}
 use Rattle.surf_tiles.specs.Rules.{IsGrown}
 use Rattle.surf_tiles.proofs.Growing.{at_kept, grown_then}
-use Rattle.surf_circuit.specs.Numbering.{kind_index, AreNumbers, NumbersAll}
-
--- all kinds, each at its index
-abbrev pub all_kinds : List Kind
-all_kinds =
-    Empty ∷ Input ∷ Value false ∷ Value true ∷ Wire ∷ A ∷ B ∷ H ∷ V ∷ P ∷ Q ∷ Centre
-    ∷ Gate1 false false ∷ Gate1 false true ∷ Gate1 true false ∷ Gate1 true true
-    ∷ Gate2 false false false false ∷ Gate2 false false false true ∷ Gate2 false false true false ∷ Gate2 false false true true
-    ∷ Gate2 false true false false ∷ Gate2 false true false true ∷ Gate2 false true true false ∷ Gate2 false true true true
-    ∷ Gate2 true false false false ∷ Gate2 true false false true ∷ Gate2 true false true false ∷ Gate2 true false true true
-    ∷ Gate2 true true false false ∷ Gate2 true true false true ∷ Gate2 true true true false ∷ Gate2 true true true true
-    ∷ []
-
-at_index : (k : Kind) → slice_get all_kinds (kind_index k) ≡ Some k
-at_index Empty = refl
-at_index Input = refl
-at_index (Value false) = refl
-at_index (Value true) = refl
-at_index Wire = refl
-at_index A = refl
-at_index B = refl
-at_index H = refl
-at_index V = refl
-at_index P = refl
-at_index Q = refl
-at_index Centre = refl
-at_index (Gate1 false false) = refl
-at_index (Gate1 false true) = refl
-at_index (Gate1 true false) = refl
-at_index (Gate1 true true) = refl
-at_index (Gate2 false false false false) = refl
-at_index (Gate2 false false false true) = refl
-at_index (Gate2 false false true false) = refl
-at_index (Gate2 false false true true) = refl
-at_index (Gate2 false true false false) = refl
-at_index (Gate2 false true false true) = refl
-at_index (Gate2 false true true false) = refl
-at_index (Gate2 false true true true) = refl
-at_index (Gate2 true false false false) = refl
-at_index (Gate2 true false false true) = refl
-at_index (Gate2 true false true false) = refl
-at_index (Gate2 true false true true) = refl
-at_index (Gate2 true true false false) = refl
-at_index (Gate2 true true false true) = refl
-at_index (Gate2 true true true false) = refl
-at_index (Gate2 true true true true) = refl
+use Rattle.surf_settle.specs.Indices.{all_kinds, kind_index}
+use Rattle.surf_settle.proofs.Listed.{at_index}
+use Rattle.surf_circuit.specs.Numbering.{AreNumbers, NumbersAll}
 
 number_at : (texts : List (List ℕ)) (numbers : List ℕ) (kinds : List Kind) (i : ℕ) (k : Kind) → AreNumbers texts numbers kinds → slice_get kinds i ≡ Some k → slice_get texts (slice_index_or numbers i 0) ≡ Some (name_of k)
 number_at texts [] [] i k h at = absurd (cc (sym (slice_get_past [] i (omega arith)) ∙ at))

@@ -23,7 +23,8 @@ use Rattle.surf_settle.specs.Settling.{circuit_rules}
 use Rattle.surf_settle.proofs.Said.{named}
 use Rattle.surf_manifest.specs.Drafts.{NamesBelow, RulesBelow, named_rule}
 use Rattle.surf_manifest.specs.Item.{is_name}
-use Rattle.surf_circuit.specs.Numbering.{kind_index, NumbersAll}
+use Rattle.surf_settle.specs.Indices.{kind_index}
+use Rattle.surf_circuit.specs.Numbering.{NumbersAll}
 use Rattle.surf_circuit.specs.Surfaces.{layout_system, plain_manifest}
 
 -- the name of a state is a name of the manifest grammar

@@ -1,76 +1,14 @@
 // The numbers of the names that sites begin with.
 ghost use Rattle.std.specs.Prelude.{◌-◌, ◌<◌, ◌^◌, ◌≡◌, ◌≤◌, IfOk, Some, length, slice_get};
-ghost use Rattle.surf_circuit.specs.Numbering.{NumbersAll, kind_index};
+ghost use Rattle.surf_circuit.specs.Numbering.{NumbersAll};
 ghost use Rattle.surf_tiles.specs.Kinds.{name_of};
 ghost use Rattle.surf_tiles.specs.Rules.{IsGrown};
 
 use std::alloc::Global;
 use surf_base::NoMemory;
 use surf_rules::Names;
+use surf_settle::KINDS;
 use surf_tiles::{Kind, kind_name};
-
-// All kinds, each at its index.
-const KINDS: [Kind; 32] = [
-    Kind::Empty,
-    Kind::Input,
-    Kind::Value(false),
-    Kind::Value(true),
-    Kind::Wire,
-    Kind::A,
-    Kind::B,
-    Kind::H,
-    Kind::V,
-    Kind::P,
-    Kind::Q,
-    Kind::Centre,
-    Kind::Gate1(false, false),
-    Kind::Gate1(false, true),
-    Kind::Gate1(true, false),
-    Kind::Gate1(true, true),
-    Kind::Gate2(false, false, false, false),
-    Kind::Gate2(false, false, false, true),
-    Kind::Gate2(false, false, true, false),
-    Kind::Gate2(false, false, true, true),
-    Kind::Gate2(false, true, false, false),
-    Kind::Gate2(false, true, false, true),
-    Kind::Gate2(false, true, true, false),
-    Kind::Gate2(false, true, true, true),
-    Kind::Gate2(true, false, false, false),
-    Kind::Gate2(true, false, false, true),
-    Kind::Gate2(true, false, true, false),
-    Kind::Gate2(true, false, true, true),
-    Kind::Gate2(true, true, false, false),
-    Kind::Gate2(true, true, false, true),
-    Kind::Gate2(true, true, true, false),
-    Kind::Gate2(true, true, true, true),
-];
-
-/// The place of a kind in a list of all 32.
-pub(crate) fn kind_index(kind: Kind) -> usize
-    ensures is { result ≡ kind_index kind }
-    ensures below { result < 32 }
-{
-    match kind {
-        Kind::Empty => 0,
-        Kind::Input => 1,
-        Kind::Value(value) => 2 + usize::from(value),
-        Kind::Wire => 4,
-        Kind::A => 5,
-        Kind::B => 6,
-        Kind::H => 7,
-        Kind::V => 8,
-        Kind::P => 9,
-        Kind::Q => 10,
-        Kind::Centre => 11,
-        Kind::Gate1(zero, one) => 12 + 2 * usize::from(zero) + usize::from(one),
-        Kind::Gate2(t00, t01, t10, t11) => {
-            16 + 8 * usize::from(t00)
-                + 4 * usize::from(t01)
-                + 2 * usize::from(t10)
-                + usize::from(t11)
-        }
-    }
-}
 
 // The number of the name that a kind begins with.
 fn number_of(names: &mut Names, kind: Kind) -> Result<u32, NoMemory>

@@ -1,29 +1,28 @@
 // The surface of a layout as a manifest.
 ghost use Rattle.std.specs.Prelude.{◌<◌, ◌^◌, ◌≡◌, IfOk, OnOk, length, map, slice_index_or};
-ghost use Rattle.surf_circuit.specs.Numbering.{NumbersAll, kind_index};
+ghost use Rattle.surf_settle.specs.Indices.{kind_index};
+ghost use Rattle.surf_circuit.specs.Numbering.{NumbersAll};
 ghost use Rattle.surf_circuit.specs.Surfaces.{layout_system, plain_manifest};
 ghost use Rattle.surf_settle.specs.Plans.{IsLayout};
 
-use crate::numbering::{kind_index, number_kinds};
+use crate::numbering::number_kinds;
 use std::alloc::Global;
 use surf_base::NoMemory;
 use surf_lattice::{Grid, Square};
 use surf_manifest::Manifest;
 use surf_rules::Names;
-use surf_settle::Layout;
-use surf_tiles::{Kind, circuit_rules};
+use surf_settle::{KindByte, Layout};
+use surf_tiles::circuit_rules;
 
 // The number of each site's name.
-fn start_of(alloc: Global, kinds: &[Kind], numbers: &[u32]) -> Result<Vec<u32>, NoMemory>
+fn start_of(alloc: Global, kinds: &[KindByte], numbers: &[u32]) -> Result<Vec<u32>, NoMemory>
     requires { length numbers.now ≡ 32 }
     ensures { IfOk result (λ v.
         v.items ≡ map (λ k. slice_index_or numbers.now (kind_index k) 0) kinds.now) }
 {
     let mut start = Vec::with_capacity(alloc, kinds.len()).map_err(|_| NoMemory)?;
     for kind in kinds {
-        start
-            .push(numbers[kind_index(*kind)])
-            .map_err(|_| NoMemory)?;
+        start.push(numbers[kind.index()]).map_err(|_| NoMemory)?;
     }
     Ok(start)
 }

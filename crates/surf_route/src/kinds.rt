@@ -9,10 +9,11 @@ ghost use Rattle.surf_route.specs.Sealing.{AreKinds, line_start};
 use std::alloc::Global;
 use surf_base::NoMemory;
 use surf_place::{Drawing, Routed};
+use surf_settle::KindByte;
 use surf_tiles::{Heading, Kind, Ports, Tile, sites};
 
 /// The kinds of all sites, in row-major order. They stand once in memory.
-pub fn all_kinds(alloc: Global, drawing: &Drawing<Routed>) -> Result<Vec<Kind>, NoMemory>
+pub fn all_kinds(alloc: Global, drawing: &Drawing<Routed>) -> Result<Vec<KindByte>, NoMemory>
     requires { IsPlaced drawing.now }
     ensures { IfOk result (λ kinds. kinds.items ≡ (sealed_of drawing.now).kinds) }
 {
@@ -24,14 +25,14 @@ pub fn all_kinds(alloc: Global, drawing: &Drawing<Routed>) -> Result<Vec<Kind>, 
     Ok(kinds)
 }
 
-fn with_room(alloc: Global, count: usize) -> Result<Vec<Kind>, NoMemory>
+fn with_room(alloc: Global, count: usize) -> Result<Vec<KindByte>, NoMemory>
     ensures { IfOk result (λ kinds. kinds.items ≡ []) }
 {
     Vec::with_capacity(alloc, count).map_err(|_| NoMemory)
 }
 
 // The sites of a row of tiles.
-fn put_tiles(kinds: &mut Vec<Kind>, drawing: &Drawing<Routed>, row: u32) -> Result<(), NoMemory>
+fn put_tiles(kinds: &mut Vec<KindByte>, drawing: &Drawing<Routed>, row: u32) -> Result<(), NoMemory>
     requires so_far { AreKinds drawing.now (line_start drawing.now row 0) kinds.old.items }
     requires within { row < length (rows_of drawing.now.netlist) }
     ensures { let end = line_start drawing.now (row + 1) 0 in
@@ -62,17 +63,29 @@ fn is_same(a: Tile, b: Tile) -> bool
     }
 }
 
+// Kinds as bytes.
+fn bytes_of(kinds: [Kind; 3]) -> [KindByte; 3]
+    ensures { result ≡ kinds }
+{
+    let [first, second, third] = kinds;
+    [
+        KindByte::new(first),
+        KindByte::new(second),
+        KindByte::new(third),
+    ]
+}
+
 // One of the three rows of sites of a tile.
-fn sites_in(tile: Tile, y: u32) -> [Kind; 3]
+fn sites_in(tile: Tile, y: u32) -> [KindByte; 3]
     requires { y < 3 }
     ensures { result ≡ get_or (sites_of tile) y [] }
 {
-    sites(tile)[y as usize]
+    bytes_of(sites(tile)[y as usize])
 }
 
 // One of the three rows of sites of a row of tiles.
 fn put_line(
-    kinds: &mut Vec<Kind>,
+    kinds: &mut Vec<KindByte>,
     drawing: &Drawing<Routed>,
     row: u32,
     y: u32,
@@ -96,8 +109,11 @@ fn put_line(
     Ok(())
 }
 
-fn put_sites(kinds: &mut Vec<Kind>, sites: &[Kind]) -> Result<(), NoMemory>
+fn put_sites(kinds: &mut Vec<KindByte>, sites: &[KindByte]) -> Result<(), NoMemory>
     ensures { OnOk result (kinds.new.items ≡ kinds.old.items ++ sites.now) }
 {
-    kinds.extend_from_slice(sites).map_err(|_| NoMemory)
+    for site in sites {
+        kinds.push(site.copy()).map_err(|_| NoMemory)?;
+    }
+    Ok(())
 }

@@ -9,8 +9,7 @@ use std::alloc::Global;
 use surf_base::NoMemory;
 use surf_lattice::Site;
 use surf_place::{Drawing, Routed};
-use surf_settle::Layout;
-use surf_tiles::Kind;
+use surf_settle::{KindByte, Layout};
 
 /// A drawing that has its tiles, and that can be given its sites.
 pub trait Seal: Sized {
@@ -21,7 +20,7 @@ pub trait Seal: Sized {
 
 #[derive(Drop)]
 struct SitesOf {
-    kinds: Vec<Kind>,
+    kinds: Vec<KindByte>,
     inputs: Vec<Site>,
     outputs: Vec<Site>,
 }

@@ -18,3 +18,4 @@ pub mod InRange
 pub mod FromLiteral
 pub mod ToLiteral
 pub mod Said
+pub mod Listed

@@ -4,3 +4,4 @@ pub mod Plans
 pub mod Literal
 pub mod Settling
 pub mod Texts
+pub mod Indices

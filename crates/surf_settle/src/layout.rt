@@ -5,6 +5,7 @@ ghost use Rattle.surf_settle.specs.Law.{IsLawful, grid_of, kind_of};
 ghost use Rattle.surf_settle.specs.Plans.{IsLayout, plan};
 ghost use Rattle.surf_settle.specs.Settling.{SettlesAlways, events_of};
 
+use crate::kind_byte::KindByte;
 use std::marker::Model;
 use surf_lattice::Site;
 use surf_tiles::{Kind, Netlist, changes};
@@ -16,7 +17,7 @@ pub struct Layout {
     netlist: Netlist,
     width: u32,
     height: u32,
-    kinds: Vec<Kind>,
+    kinds: Vec<KindByte>,
     inputs: Vec<Site>,
     outputs: Vec<Site>,
 }
@@ -41,7 +42,7 @@ impl Layout {
         netlist: Netlist,
         width: u32,
         height: u32,
-        kinds: Vec<Kind>,
+        kinds: Vec<KindByte>,
         inputs: Vec<Site>,
         outputs: Vec<Site>,
     ) -> Layout
@@ -82,7 +83,7 @@ impl Layout {
     }
 
     /// The kinds of the sites, in row-major order.
-    pub fn kinds(&self) -> &[Kind]
+    pub fn kinds(&self) -> &[KindByte]
         ensures is { result.now ≡ self.now.kinds }
         ensures layout { IsLayout self.now }
     {
@@ -95,7 +96,7 @@ impl Layout {
         ensures { result ≡ kind_of self.now site }
     {
         let place = site.y as usize * self.width as usize + site.x as usize;
-        self.kinds[place]
+        self.kinds[place].kind()
     }
 
     /// How many inputs there are.
@@ -139,7 +140,7 @@ impl Layout {
     {
         let mut total: u64 = 0;
         for kind in &self.kinds {
-            total += u64::from(changes(*kind));
+            total += u64::from(changes(kind.kind()));
         }
         total
     }

@@ -6,8 +6,10 @@
 //! in one configuration, whose outputs show what the netlist computes.
 #![tactic(auto)]
 
+mod kind_byte;
 mod laws;
 mod layout;
 
+pub use kind_byte::{KINDS, KindByte};
 pub use laws::{law_forms, rule_texts};
 pub use layout::Layout;

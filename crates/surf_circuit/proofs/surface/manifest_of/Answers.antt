@@ -4,7 +4,8 @@ use Rattle.surf_tiles.specs.Reactions.{reactions}
 use Rattle.surf_tiles.proofs.Growing.{all_kept}
 use Rattle.surf_manifest.specs.Drafts.{NamesBelow}
 use Rattle.surf_manifest.specs.Numbered.{NamedManifest}
-use Rattle.surf_circuit.specs.Numbering.{kind_index, NumbersAll}
+use Rattle.surf_settle.specs.Indices.{kind_index}
+use Rattle.surf_circuit.specs.Numbering.{NumbersAll}
 use Rattle.surf_circuit.proofs.SurfaceLemmas.{assembled, grown_names, rules_below, start_below}
 use Rattle.surf_circuit.proofs.surface.manifest_of.Goals as goal
 

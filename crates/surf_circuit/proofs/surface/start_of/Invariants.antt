@@ -1,5 +1,5 @@
 use Rattle.std.proofs.Common.{◌≡◌, map, take, slice_index_or}
-use Rattle.surf_circuit.specs.Numbering.{kind_index}
+use Rattle.surf_settle.specs.Indices.{kind_index}
 use Rattle.surf_circuit.proofs.surface.start_of.Given as goal
 
 abbrev pub invariant-loop-kind : goal.invariant-loop-kind
