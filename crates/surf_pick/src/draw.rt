@@ -1,5 +1,5 @@
 // Draws of numbers below a bound, from words that a seed fixes.
-ghost use Rattle.std.specs.Prelude.{◌≡◌, ◌<◌, ◌-◌, ◌^◌, ◌%◌};
+ghost use Rattle.std.specs.Prelude.{◌≡◌, ◌↔◌, ◌≤◌, ◌<◌, ◌-◌, ◌^◌, ◌%◌, IsTrue};
 ghost use Rattle.surf_pick.specs.Draws.{seeded, words_of, next_wide, draw_below};
 
 use rand_core::{Rng, SeedableRng};
@@ -40,15 +40,14 @@ impl Draw {
         ensures draw { (result, words_of self.new) ≡ draw_below total (words_of self.old) }
         ensures below { result < total }
     {
-        let last = last_word(total);
         for turn in 0..15u32 {
             let _turn = turn;
             let word = self.wide();
-            if word <= last {
-                return word % total;
+            if counts(word, total) {
+                return remainder(word, total);
             }
         }
-        self.wide() % total
+        remainder(self.wide(), total)
     }
 
     // The next two words as one number.
@@ -59,6 +58,29 @@ impl Draw {
         let second = u128::from(self.generator.next_u64());
         (first << 64) + second
     }
+}
+
+// Whether a number of two words counts. Nearly all are so small that this needs no remainder.
+fn counts(word: u128, total: u128) -> bool
+    requires { 0 < total }
+    ensures { IsTrue result ↔ word ≤ 2 ^ 128 - 1 - 2 ^ 128 % total }
+{
+    word <= u128::MAX - total || word <= last_word(total)
+}
+
+// The remainder of a number of two words, in numbers of 64 bits where the divisor has 32.
+fn remainder(word: u128, total: u128) -> u128
+    requires { 0 < total }
+    ensures { result ≡ word % total }
+{
+    if total >= 4294967296 {
+        return word % total;
+    }
+    let total = total as u64;
+    let low = (word % 18446744073709551616) as u64;
+    let high = (word / 18446744073709551616) as u64 % total;
+    let middle = (high * 4294967296 + low / 4294967296) % total;
+    u128::from((middle * 4294967296 + low % 4294967296) % total)
 }
 
 // The greatest number of two words that counts.
