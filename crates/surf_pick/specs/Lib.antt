@@ -1,3 +1,4 @@
 pub mod Finds
 pub mod Draws
 pub mod Trees
+pub mod Wides

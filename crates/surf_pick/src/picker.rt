@@ -5,9 +5,12 @@ ghost use Rattle.surf_pick.specs.Finds.{Finds};
 use std::alloc::Global;
 use surf_base::NoMemory;
 
-/// A list of weights, one of which is found by a number below their sum. The sum is below 2^128.
+/// A list of weights, one of which is found by a number below their sum. The sum is below a bound.
 /// Only `build` takes memory.
 pub trait Picker {
+    /// What the sum of the weights stays below.
+    ghost bound: { ℕ };
+
     /// The weights in order.
     ghost weights: { Self → List ℕ };
 
@@ -18,14 +21,14 @@ pub trait Picker {
     fn build(alloc: Global, list: Vec<u128>) -> Result<Self, NoMemory>
     where
         Self: Sized,
-        requires { sum list.items < 2 ^ 128 }
+        requires { sum list.items < bound }
         ensures list { IfOk result (λ p. weights p ≡ list.items) }
         ensures sets { IfOk result (λ p. sets p ≡ 0) };
 
     /// Puts a weight in the place of another.
     fn set(&mut self, place: usize, weight: u128)
         requires place { place < length (weights self.old) }
-        requires fits { sum (slice_set (weights self.old) place weight) < 2 ^ 128 }
+        requires fits { sum (slice_set (weights self.old) place weight) < bound }
         ensures list { weights self.new ≡ slice_set (weights self.old) place weight }
         ensures sets { sets self.new ≡ min (sets self.old + 1) (2 ^ 64 - 1) }
         ensures counted { sets self.old ≤ sets self.new };

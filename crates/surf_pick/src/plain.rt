@@ -1,4 +1,6 @@
 // A picker that goes through its list.
+ghost use Rattle.std.specs.Prelude.{◌^◌};
+
 use crate::picker::Picker;
 use std::alloc::Global;
 use std::marker::Model;
@@ -24,6 +26,8 @@ impl Model for PlainPicker {
 }
 
 impl Picker for PlainPicker {
+    ghost bound = { 2 ^ 128 };
+
     ghost weights = { λ p. p.0 };
 
     ghost sets = { λ p. p.1 };

@@ -41,6 +41,8 @@ impl TreePicker {
 }
 
 impl Picker for TreePicker {
+    ghost bound = { 2 ^ 128 };
+
     ghost weights = { λ p. p.0 };
 
     ghost sets = { λ p. p.1 };

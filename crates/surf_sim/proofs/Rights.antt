@@ -75,12 +75,12 @@ around_inside g p inside s has = elim (has_cases p (neighbours g p) s has) [
   | inr d ↦ (listed_adjacent g p s inside d).second
 ]
 
-pub around_right : (S : Surface ℕ) (c : List ℕ) (p : Site) (old new : List ℕ) → IsInside S.grid p → AreWeights S.grid old → new ≡ refreshed S c (around S.grid p) old → AreRight S c (around S.grid p) new
+pub around_right : (S : Surface ℕ) (c : List ℕ) (p : Site) (old new : List ℕ) → IsInside S.grid p → AreWeights S old → new ≡ refreshed S c (around S.grid p) old → AreRight S c (around S.grid p) new
 around_right S c p old new inside weights is =
     subst (AreRight S c (around S.grid p)) (sym is) (rights_set S c (around S.grid p) old (around_inside S.grid p inside) weights.count)
 
 -- setting one more keeps those around a site right
-pub still_right : (S : Surface ℕ) (c : List ℕ) (p q : Site) (old new : List ℕ) → IsInside S.grid p → IsInside S.grid q → AreWeights S.grid old → AreRight S c (around S.grid p) old
+pub still_right : (S : Surface ℕ) (c : List ℕ) (p q : Site) (old new : List ℕ) → IsInside S.grid p → IsInside S.grid q → AreWeights S old → AreRight S c (around S.grid p) old
     → new ≡ slice_set old (place S.grid q) (weight_of S c q) → AreRight S c (around S.grid p) new
 still_right S c p q old new inside q_inside weights right is =
     subst (AreRight S c (around S.grid p)) (sym is)

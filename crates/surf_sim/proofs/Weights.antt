@@ -1,9 +1,8 @@
 -- Setting weights, one after another.
-use Rattle.std.proofs.Common.{inl, inr, ℕ, ◌≡◌, ◌+◌, ◌*◌, ◌^◌, ◌<◌, ◌≤◌, List, [], ◌∷◌, ◌++◌, length, map, sum, set, Option, Some, None, IfSome, refl, sym, ◌∙◌, ap, arith, suc}
-use Rattle.std.specs.List.{filter_map, All, range_with_len}
+use Rattle.std.proofs.Common.{inl, inr, ℕ, ◌≡◌, ◌+◌, ◌*◌, List, [], ◌∷◌, ◌++◌, map, Option, Some, None, IfSome, refl, sym, ◌∙◌, ap, arith, suc}
+use Rattle.std.specs.List.{filter_map, range_with_len}
 use Rattle.std.specs.Option.{option_to_list}
 use Rattle.std.proofs.lemmas.List.FromFn.{map-range_with_len_more}
-use Rattle.std.proofs.lemmas.List.Sums.{sum_by-set, sum_by-le}
 use Rattle.surf_lattice.specs.declared.site.Site.{Site}
 use Rattle.surf_lattice.specs.Grids.{Grid, IsInside, neighbour, degree, site_at}
 use Rattle.surf_lattice.proofs.Listing.{found_more}
@@ -13,13 +12,6 @@ use Rattle.surf_world.specs.Systems.{Surface, Enabled}
 use Rattle.surf_world.specs.Worlds.{Placed}
 use Rattle.surf_world.specs.Picks.{weight_of, weights_of, around, refreshed}
 use Rattle.surf_world.proofs.Around.{refreshed_append, event_inside}
-
--- the sum fits, and still does where one weight is set
-pub fits_all : (ws : List ℕ) → length ws ≤ 33554432 → All (λ w. w ≤ 2 ^ 64) ws → sum ws < 2 ^ 128
-fits_all ws few small = omega (arith, sum_by-le (λ x. x) (2 ^ 64) ws small, few)
-
-pub fits_set : (ws : List ℕ) (j w : ℕ) → j < length ws → length ws ≤ 33554432 → All (λ w. w ≤ 2 ^ 64) ws → w ≤ 2 ^ 64 → sum (set ws j w) < 2 ^ 128
-fits_set ws j w lt few small le = omega (arith, sum_by-set (λ x. x) ws j w 0 lt, sum_by-le (λ x. x) (2 ^ 64) ws small, few, le)
 
 pub around_more : (S : Surface ℕ) (c : List ℕ) (p : Site) (d : ℕ) (old mid new : List ℕ)
     → mid ≡ refreshed S c (p ∷ filter_map (neighbour S.grid p) (range_with_len 0 d)) old → new ≡ refreshed S c (option_to_list (neighbour S.grid p d)) mid

@@ -1,16 +1,16 @@
 -- The events of a simulation: at each turn the choice of a number that is drawn below the sum of
 -- the rates.
-use Rattle.std.specs.Prelude.{ℕ, zero, suc, ◌*◌, ◌^◌, ◌≤◌, ◌≡◌, nat_eq, Bool, List, [], ◌∷◌, length, sum_by, All, Option, Some, None}
+use Rattle.std.specs.Prelude.{ℕ, zero, suc, ◌*◌, ◌≤◌, ◌≡◌, nat_eq, Bool, List, [], ◌∷◌, length, sum_by, All, Option, Some, None}
 use Rattle.std.specs.Option.{option_map}
 use Rattle.rand_core.specs.Stream.{Stream}
 use Rattle.rand_pcg.specs.Lcg.{Lcg}
-use Rattle.surf_lattice.specs.Grids.{Grid}
 use Rattle.surf_world.specs.declared.event.Event.{Event}
 use Rattle.surf_world.specs.Systems.{Surface, after}
 use Rattle.surf_world.specs.Worlds.{Placed}
 use Rattle.surf_world.specs.Choices.{choices}
 use Rattle.surf_world.specs.Picks.{rate_of, pick}
 use Rattle.surf_pick.specs.Draws.{words_of, draw_below}
+use Rattle.surf_sim.specs.Totals.{most_weight}
 
 -- the choice among events of a number that is drawn, and the words after the draw; no word is used
 -- where there are no events
@@ -53,8 +53,7 @@ IsStep old new (Some e) =
     ≡ Some (e, words_of new.generator))
     × (new.placed ≡ record old.placed { names = after old.placed.surface old.placed.names e })
 
--- one small weight for each site, of not too many
-pub record AreWeights (g : Grid) (ws : List ℕ) : Type 0 where
-  pub count : length ws ≡ g.width * g.height
-  pub few : length ws ≤ 33554432
-  pub small : All (λ w. w ≤ 2 ^ 64) ws
+-- one weight for each site, which is not too great
+pub record AreWeights (S : Surface ℕ) (ws : List ℕ) : Type 0 where
+  pub count : length ws ≡ S.grid.width * S.grid.height
+  pub small : All (λ w. w ≤ most_weight S) ws

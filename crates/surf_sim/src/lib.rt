@@ -3,7 +3,8 @@
 //! A [`Sim`] draws events one after another. Each is the choice, in the order of
 //! `specs/Simulations.antt`, of a number that is drawn below the sum of the rates; so a seed fixes
 //! all of them. After an event only the weights of its sites and of their neighbours are set, each
-//! at most once, and at most fourteen. [`simulation_laws`] says what the events of a seed are: a
+//! at most once, and at most fourteen. What their sum never exceeds is told by [`most_total`], and
+//! has to be below the picker's bound. [`simulation_laws`] says what the events of a seed are: a
 //! run, which ends early only where nothing can happen, and the same under other names.
 #![tactic(auto)]
 
@@ -11,6 +12,8 @@ mod refresh;
 mod second;
 mod sim;
 mod theorems;
+mod total;
 
 pub use sim::Sim;
 pub use theorems::simulation_laws;
+pub use total::most_total;

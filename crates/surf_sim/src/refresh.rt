@@ -1,9 +1,10 @@
 // The weights around an event, set anew.
-ghost use Rattle.std.specs.Prelude.{◌≡◌, ◌≤◌, ◌<◌, ◌+◌, ◌^◌, IfSome, length, slice_set, sum, IfOk};
+ghost use Rattle.std.specs.Prelude.{◌≡◌, ◌≤◌, ◌<◌, ◌+◌, IfSome, length, slice_set, sum, IfOk};
 ghost use Rattle.std.specs.Option.{option_to_list};
 ghost use Rattle.surf_lattice.specs.Grids.{IsInside, place};
 ghost use Rattle.surf_world.specs.Picks.{weight_of, weights_of, around, around_event, refreshed};
 ghost use Rattle.surf_sim.specs.Simulations.{AreWeights};
+ghost use Rattle.surf_sim.specs.Totals.{most_total};
 ghost use Rattle.surf_sim.specs.Touched.{touched, AreRight};
 
 use crate::second::refresh_second;
@@ -16,8 +17,8 @@ use surf_world::{Event, World};
 /// The weights of the sites in row-major order.
 pub(crate) fn weights<L: Lattice>(alloc: Global, world: &World<L>) -> Result<Vec<u128>, NoMemory>
     ensures all { IfOk result (λ v. v.items ≡ weights_of world.now) }
-    ensures right { IfOk result (λ v. AreWeights world.now.surface.grid v.items) }
-    ensures fits { IfOk result (λ v. sum v.items < 2 ^ 128) }
+    ensures right { IfOk result (λ v. AreWeights world.now.surface v.items) }
+    ensures fits { IfOk result (λ v. sum v.items ≤ most_total world.now.surface) }
 {
     let count = world.site_count();
     let mut weights = Vec::with_capacity(alloc, count).map_err(|_| NoMemory)?;
@@ -32,11 +33,12 @@ pub(crate) fn weights<L: Lattice>(alloc: Global, world: &World<L>) -> Result<Vec
 pub(crate) fn refresh_event<L: Lattice, P: Picker>(world: &World<L>, picker: &mut P, event: &Event)
     requires first { IsInside world.now.surface.grid event.now.first }
     requires second { IfSome event.now.second (IsInside world.now.surface.grid) }
-    requires weights { AreWeights world.now.surface.grid (P.weights picker.old) }
+    requires weights { AreWeights world.now.surface (P.weights picker.old) }
+    requires fits { most_total world.now.surface < P.bound }
     ensures set { P.weights picker.new
         ≡ refreshed world.now.surface world.now.names
         (around_event world.now.surface.grid event.now) (P.weights picker.old) }
-    ensures weights { AreWeights world.now.surface.grid (P.weights picker.new) }
+    ensures weights { AreWeights world.now.surface (P.weights picker.new) }
     ensures once { P.sets picker.new ≤ P.sets picker.old + length
         (touched world.now.surface.grid event.now) }
     ensures sets { P.sets picker.new ≤ P.sets picker.old + 14 }
@@ -48,11 +50,12 @@ pub(crate) fn refresh_event<L: Lattice, P: Picker>(world: &World<L>, picker: &mu
 
 fn refresh_around<L: Lattice, P: Picker>(world: &World<L>, picker: &mut P, site: Site)
     requires site { IsInside world.now.surface.grid site }
-    requires weights { AreWeights world.now.surface.grid (P.weights picker.old) }
+    requires weights { AreWeights world.now.surface (P.weights picker.old) }
+    requires fits { most_total world.now.surface < P.bound }
     ensures set { P.weights picker.new
         ≡ refreshed world.now.surface world.now.names (around world.now.surface.grid site)
         (P.weights picker.old) }
-    ensures weights { AreWeights world.now.surface.grid (P.weights picker.new) }
+    ensures weights { AreWeights world.now.surface (P.weights picker.new) }
     ensures right { AreRight world.now.surface world.now.names (around world.now.surface.grid site)
         (P.weights picker.new) }
     ensures sets { P.sets picker.new ≤ P.sets picker.old + length
@@ -67,10 +70,11 @@ fn refresh_around<L: Lattice, P: Picker>(world: &World<L>, picker: &mut P, site:
 
 fn refresh_some<L: Lattice, P: Picker>(world: &World<L>, picker: &mut P, site: Option<Site>)
     requires site { IfSome site (IsInside world.now.surface.grid) }
-    requires weights { AreWeights world.now.surface.grid (P.weights picker.old) }
+    requires weights { AreWeights world.now.surface (P.weights picker.old) }
+    requires fits { most_total world.now.surface < P.bound }
     ensures set { P.weights picker.new
         ≡ refreshed world.now.surface world.now.names (option_to_list site) (P.weights picker.old) }
-    ensures weights { AreWeights world.now.surface.grid (P.weights picker.new) }
+    ensures weights { AreWeights world.now.surface (P.weights picker.new) }
     ensures sets { P.sets picker.new ≤ P.sets picker.old + length (option_to_list site) }
     ensures counted { P.sets picker.old ≤ P.sets picker.new }
 {
@@ -81,11 +85,12 @@ fn refresh_some<L: Lattice, P: Picker>(world: &World<L>, picker: &mut P, site: O
 
 pub(crate) fn refresh<L: Lattice, P: Picker>(world: &World<L>, picker: &mut P, site: Site)
     requires site { IsInside world.now.surface.grid site }
-    requires weights { AreWeights world.now.surface.grid (P.weights picker.old) }
+    requires weights { AreWeights world.now.surface (P.weights picker.old) }
+    requires fits { most_total world.now.surface < P.bound }
     ensures set { P.weights picker.new
         ≡ slice_set (P.weights picker.old) (place world.now.surface.grid site)
         (weight_of world.now.surface world.now.names site) }
-    ensures weights { AreWeights world.now.surface.grid (P.weights picker.new) }
+    ensures weights { AreWeights world.now.surface (P.weights picker.new) }
     ensures sets { P.sets picker.new ≤ P.sets picker.old + 1 }
     ensures counted { P.sets picker.old ≤ P.sets picker.new }
 {

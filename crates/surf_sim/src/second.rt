@@ -1,9 +1,10 @@
 // The weights around an event's second site.
-ghost use Rattle.std.specs.Prelude.{◌≡◌, ◌≤◌, ◌+◌, ◌∷◌, [], IfSome, filter, flat_map, length, slice_set};
+ghost use Rattle.std.specs.Prelude.{◌≡◌, ◌≤◌, ◌<◌, ◌+◌, ◌∷◌, [], IfSome, filter, flat_map, length, slice_set};
 ghost use Rattle.std.specs.Option.{option_to_list};
 ghost use Rattle.surf_lattice.specs.Grids.{IsInside, place};
 ghost use Rattle.surf_world.specs.Picks.{weight_of, around, refreshed};
 ghost use Rattle.surf_sim.specs.Simulations.{AreWeights};
+ghost use Rattle.surf_sim.specs.Totals.{most_total};
 ghost use Rattle.surf_sim.specs.Touched.{is_new, AreRight};
 
 use crate::refresh::refresh;
@@ -21,13 +22,14 @@ pub(crate) fn refresh_second<L: Lattice, P: Picker>(
 )
     requires first { IsInside world.now.surface.grid first }
     requires second { IfSome second (IsInside world.now.surface.grid) }
-    requires weights { AreWeights world.now.surface.grid (P.weights picker.old) }
+    requires weights { AreWeights world.now.surface (P.weights picker.old) }
+    requires fits { most_total world.now.surface < P.bound }
     requires right { AreRight world.now.surface world.now.names
         (around world.now.surface.grid first) (P.weights picker.old) }
     ensures set { P.weights picker.new
         ≡ refreshed world.now.surface world.now.names
         (flat_map (around world.now.surface.grid) (option_to_list second)) (P.weights picker.old) }
-    ensures weights { AreWeights world.now.surface.grid (P.weights picker.new) }
+    ensures weights { AreWeights world.now.surface (P.weights picker.new) }
     ensures sets { P.sets picker.new ≤ P.sets picker.old + length
         (filter (is_new world.now.surface.grid first)
         (flat_map (around world.now.surface.grid) (option_to_list second))) }
@@ -41,13 +43,14 @@ pub(crate) fn refresh_second<L: Lattice, P: Picker>(
 fn refresh_rest<L: Lattice, P: Picker>(world: &World<L>, picker: &mut P, first: Site, second: Site)
     requires first { IsInside world.now.surface.grid first }
     requires second { IsInside world.now.surface.grid second }
-    requires weights { AreWeights world.now.surface.grid (P.weights picker.old) }
+    requires weights { AreWeights world.now.surface (P.weights picker.old) }
+    requires fits { most_total world.now.surface < P.bound }
     requires right { AreRight world.now.surface world.now.names
         (around world.now.surface.grid first) (P.weights picker.old) }
     ensures set { P.weights picker.new
         ≡ refreshed world.now.surface world.now.names (around world.now.surface.grid second)
         (P.weights picker.old) }
-    ensures weights { AreWeights world.now.surface.grid (P.weights picker.new) }
+    ensures weights { AreWeights world.now.surface (P.weights picker.new) }
     ensures sets { P.sets picker.new ≤ P.sets picker.old + length
         (filter (is_new world.now.surface.grid first) (around world.now.surface.grid second)) }
     ensures counted { P.sets picker.old ≤ P.sets picker.new }
@@ -71,12 +74,13 @@ fn refresh_new_some<L: Lattice, P: Picker>(
 )
     requires first { IsInside world.now.surface.grid first }
     requires site { IfSome site (IsInside world.now.surface.grid) }
-    requires weights { AreWeights world.now.surface.grid (P.weights picker.old) }
+    requires weights { AreWeights world.now.surface (P.weights picker.old) }
+    requires fits { most_total world.now.surface < P.bound }
     requires right { AreRight world.now.surface world.now.names
         (around world.now.surface.grid first) (P.weights picker.old) }
     ensures set { P.weights picker.new
         ≡ refreshed world.now.surface world.now.names (option_to_list site) (P.weights picker.old) }
-    ensures weights { AreWeights world.now.surface.grid (P.weights picker.new) }
+    ensures weights { AreWeights world.now.surface (P.weights picker.new) }
     ensures right { AreRight world.now.surface world.now.names (around world.now.surface.grid first)
         (P.weights picker.new) }
     ensures sets { P.sets picker.new ≤ P.sets picker.old + length
@@ -91,13 +95,14 @@ fn refresh_new_some<L: Lattice, P: Picker>(
 fn refresh_new<L: Lattice, P: Picker>(world: &World<L>, picker: &mut P, first: Site, site: Site)
     requires first { IsInside world.now.surface.grid first }
     requires site { IsInside world.now.surface.grid site }
-    requires weights { AreWeights world.now.surface.grid (P.weights picker.old) }
+    requires weights { AreWeights world.now.surface (P.weights picker.old) }
+    requires fits { most_total world.now.surface < P.bound }
     requires right { AreRight world.now.surface world.now.names
         (around world.now.surface.grid first) (P.weights picker.old) }
     ensures set { P.weights picker.new
         ≡ slice_set (P.weights picker.old) (place world.now.surface.grid site)
         (weight_of world.now.surface world.now.names site) }
-    ensures weights { AreWeights world.now.surface.grid (P.weights picker.new) }
+    ensures weights { AreWeights world.now.surface (P.weights picker.new) }
     ensures right { AreRight world.now.surface world.now.names (around world.now.surface.grid first)
         (P.weights picker.new) }
     ensures sets { P.sets picker.new ≤ P.sets picker.old + length

@@ -1,8 +1,9 @@
 // Simulations, and one step of them.
-ghost use Rattle.std.specs.Prelude.{◌≡◌, ◌≤◌, ◌+◌, IfOk, IfNone, IfSome, length};
+ghost use Rattle.std.specs.Prelude.{◌≡◌, ◌≤◌, ◌<◌, ◌+◌, IfOk, IfNone, IfSome, length};
 ghost use Rattle.surf_world.specs.Systems.{Enabled, Stuck};
 ghost use Rattle.surf_world.specs.Picks.{weights_of};
 ghost use Rattle.surf_sim.specs.Simulations.{IsStep};
+ghost use Rattle.surf_sim.specs.Totals.{most_total};
 ghost use Rattle.surf_sim.specs.Touched.{touched};
 
 use crate::refresh::{refresh_event, weights};
@@ -22,9 +23,10 @@ pub struct Sim<L: Lattice, P: Picker> {
 }
 
 impl<L: Lattice, P: Picker> Model for Sim<L, P> {
-    ghost use Rattle.std.specs.Prelude.{◌≡◌};
+    ghost use Rattle.std.specs.Prelude.{◌≡◌, ◌<◌};
     ghost use Rattle.surf_world.specs.Picks.{weights_of};
     ghost use Rattle.surf_sim.specs.Simulations.{Simulation, AreWeights};
+    ghost use Rattle.surf_sim.specs.Totals.{most_total};
 
     ghost Value = { Simulation };
 
@@ -38,12 +40,14 @@ impl<L: Lattice, P: Picker> Model for Sim<L, P> {
 
     ghost invariant = { λ s.
         (P.weights s.picker ≡ weights_of s.world)
-        × AreWeights s.world.surface.grid (P.weights s.picker) };
+        × AreWeights s.world.surface (P.weights s.picker)
+        × (most_total s.world.surface < P.bound) };
 }
 
 impl<L: Lattice + Drop, P: Picker> Sim<L, P> {
     /// A simulation that begins with this world and these draws. Both are given up on `NoMemory`.
     pub fn new(alloc: Global, world: World<L>, draw: Draw) -> Result<Sim<L, P>, NoMemory>
+        requires { most_total world.surface < P.bound }
         ensures { IfOk result (λ s. s
             ≡ record { placed = world; weights = weights_of world; sets = 0; generator = draw }) }
     {

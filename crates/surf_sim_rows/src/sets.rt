@@ -1,4 +1,6 @@
 // Which weights an event sets again, and how often.
+ghost use Rattle.std.specs.Prelude.{◌^◌};
+
 use crate::sims::rules;
 use std::alloc::Global;
 use std::marker::Model;
@@ -6,7 +8,7 @@ use std::test::Fail;
 use surf_base::NoMemory;
 use surf_lattice::{Hex, Lattice, Square, Torus};
 use surf_pick::{Draw, Picker, PlainPicker};
-use surf_sim::Sim;
+use surf_sim::{Sim, most_total};
 use surf_world::World;
 
 // A picker that counts how often each weight was set.
@@ -27,6 +29,8 @@ impl Model for Counted {
 }
 
 impl Picker for Counted {
+    ghost bound = { 2 ^ 128 };
+
     ghost weights = { λ p. p.0 };
 
     ghost sets = { λ p. p.1 };
@@ -53,6 +57,8 @@ impl Picker for Counted {
 
 // How often the first event of a world sets each weight.
 fn sets_of_a_step<L: Lattice + Drop>(alloc: Global, world: World<L>) -> Result<Vec<u64>, Fail> {
+    // which tells that it is below the picker's bound
+    let _most = most_total(&world);
     let mut sim = Sim::<L, Counted>::new(alloc, world, Draw::new(1))?;
     let _event = sim.step();
     Ok(sim.picker().counts.clone()?)

@@ -5,8 +5,9 @@ use Rattle.std.specs.Io.KnownBytes.{Appends}
 use Rattle.surf_base.specs.Known.{ReadsWhole}
 use Rattle.surf_rules.specs.Names.{text_of}
 use Rattle.surf_pick.specs.Draws.{seeded, words_of}
-use Rattle.surf_sim.specs.Simulations.{Simulation}
+use Rattle.surf_world.specs.Worlds.{Placed}
 use Rattle.surf_manifest.specs.Grammar.{ManifestText, manifest_of}
+use Rattle.surf_manifest.specs.Numbered.{IsNumbered}
 use Rattle.surf_manifest.specs.declared.error.ManifestError.{ManifestError}
 use Rattle.surf_top.specs.Jobs.{Job, Run, Format, Eval, Circuit, Set, Automaton, Step, Replay, Outputs, Observe}
 use Rattle.surf_world.specs.declared.event.Event.{Event}
@@ -21,7 +22,7 @@ use Rattle.surf_top.specs.declared.status.Refusal.TheVariants.{Manifest, Legend,
 use Rattle.surf_top.specs.declared.status.Status.{Status}
 use Rattle.surf_top.specs.declared.status.Status.TheVariants.{Done, Refused, Usage, NotEnabled, ReadFault, WriteFault, NoMemory, TooLong}
 use Rattle.surf_top.specs.Answers.{Ends, HasCauses, IsComplete, IsQuiet, PrintsCircuit, PrintsColony, PrintsRun, PrintsWhat, WroteWhole, WroteFront, limit}
-use Rattle.surf_top.specs.Commands.{IsReady, EndsJob, status_of}
+use Rattle.surf_top.specs.Commands.{EndsJob, status_of}
 use Rattle.surf_top.specs.Outputs.{IsText, HasText, IsRefused, FindsBad, IsBlifRefused, IsCircuitRefused, IsEvalRefused, IsSetRefused, printed_run, Shows, ShowsOf}
 use Rattle.surf_top.specs.Traced.{replay_input, IsBadAt, IsValid}
 use Rattle.surf_top.specs.Finals.{Recorded, recorded, IsEnded, EndsBad}
@@ -48,19 +49,16 @@ pub loud : {T E : Type 0} (r : Result T E) (s : Status) → s ≡ status_of r �
 loud (Ok x) s is quiet = subst IsQuiet is quiet
 loud (Err x) s is quiet = subst IsQuiet is quiet
 
--- the text of a simulator of the manifest is the job's output
-module _ (input : List ℕ) (m : ManifestText) (seed count : ℕ) (sim : Simulation) (texts : List (List ℕ)) (read : manifest_of input ≡ Ok m) (ready : IsReady m seed sim texts) where
+-- the text of a world of the manifest is the job's output
+module _ (input : List ℕ) (m : ManifestText) (seed count : ℕ) (w : Placed) (texts : List (List ℕ)) (read : manifest_of input ≡ Ok m) (numbered : IsNumbered m.system w texts) where
   abbrev text : List ℕ
-  text = placed_text (text_of texts) sim.placed (words_of sim.generator) count
+  text = placed_text (text_of texts) w (words_of (seeded seed)) count
 
   pub output_is : IsText (Run seed count) input text
-  output_is =
-      ap (printed_run seed count) read
-      ∙ ap Ok (numbered_text m.system sim.placed texts (words_of (seeded seed)) count ready.numbered)
-      ∙ ap (λ g. Ok (placed_text (text_of texts) sim.placed (words_of g) count)) (sym ready.seeds)
+  output_is = ap (printed_run seed count) read ∙ ap Ok (numbered_text m.system w texts (words_of (seeded seed)) count numbered)
 
   pub shown : Shows (Run seed count) input text
-  shown = subst (λ (r : Result ManifestText ManifestError). ShowsOf count r text) (sym read) (numbered_shows m.system sim.placed texts (words_of sim.generator) count ready.numbered)
+  shown = subst (λ (r : Result ManifestText ManifestError). ShowsOf count r text) (sym read) (numbered_shows m.system w texts (words_of (seeded seed)) count numbered)
 
 told : (o : Option (List ℕ)) (bytes : List ℕ) (P : List ℕ → Type 0) → IfSome o (λ left. bytes ≡ left) → length bytes ≤ limit → P bytes → IfSome o (λ input. (length input ≤ limit) × P input)
 told None bytes P is le p = tt

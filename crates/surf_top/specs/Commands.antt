@@ -1,10 +1,6 @@
 -- How a command ends over an input that was read.
 use Rattle.std.specs.Prelude.{ℕ, ◌≡◌, List, Result, Ok, Err}
 use Rattle.surf_base.specs.Causes.{Rose}
-use Rattle.surf_pick.specs.Draws.{seeded}
-use Rattle.surf_sim.specs.Simulations.{Simulation}
-use Rattle.surf_manifest.specs.Grammar.{ManifestText}
-use Rattle.surf_manifest.specs.Numbered.{IsNumbered}
 use Rattle.surf_top.specs.declared.status.Status.{Status}
 use Rattle.surf_top.specs.declared.status.Status.TheVariants.{Done, Refused, Usage, NotEnabled, ReadFault, WriteFault, NoMemory, TooLong}
 use Rattle.surf_manifest.specs.declared.error.ManifestError.{ManifestError}
@@ -28,12 +24,6 @@ use Rattle.surf_top.specs.declared.status.Refusal.TheVariants.{Manifest, Legend,
 use Rattle.surf_top.specs.Outputs.{IsRefused, FindsBad}
 use Rattle.surf_top.specs.Answers.{WroteWhole, WroteFront}
 use Rattle.surf_top.specs.Writes.{Writes}
-
--- a simulator of the manifest that no event was taken of, and the texts of its numbers
-pub record IsReady (m : ManifestText) (seed : ℕ) (sim : Simulation) (texts : List (List ℕ)) :
-    Type 0 where
-  pub numbered : IsNumbered m.system sim.placed texts
-  pub seeds : sim.generator ≡ seeded seed
 
 -- which answers a job may give for an input that was read, and what it then wrote
 abbrev pub EndsJob : Job → List ℕ → Writes → Status → Type 0

@@ -1,11 +1,12 @@
 // The command `run`.
-ghost use Rattle.std.specs.Prelude.{◌≡◌, ◌≤◌, IfSome, length};
+ghost use Rattle.std.specs.Prelude.{◌≡◌, ◌≤◌, ◌<◌, IfOk, IfErr, length};
 ghost use Rattle.surf_base.specs.Emits.{Emits, outlet};
-ghost use Rattle.surf_pick.specs.Draws.{words_of};
+ghost use Rattle.surf_pick.specs.Draws.{seeded, words_of};
 ghost use Rattle.surf_rules.specs.Names.{text_of};
+ghost use Rattle.surf_sim.specs.Totals.{most_total};
 ghost use Rattle.surf_world.specs.Renamings.{AreBelow};
 ghost use Rattle.surf_top.specs.Prints.{placed_text};
-ghost use Rattle.surf_top.specs.Commands.{EndsJob, IsReady};
+ghost use Rattle.surf_top.specs.Commands.{EndsJob};
 ghost use Rattle.surf_top.specs.Answers.{IsQuiet};
 ghost use Rattle.surf_top.specs.Jobs.{Run};
 ghost use Rattle.surf_top.specs.Writes.{Wrote, writes};
@@ -15,12 +16,13 @@ use crate::events::print_trace;
 use crate::print::print_end;
 use crate::status::{ended, refused};
 use std::alloc::Global;
-use surf_base::{Outbox, Sink, WriteFault};
-use surf_lattice::{Grid, Lattice};
-use surf_manifest::{Manifest, read_manifest};
-use surf_pick::{Draw, Picker, TreePicker};
+use surf_base::{NoMemory, Outbox, Sink, WriteFault};
+use surf_lattice::Lattice;
+use surf_manifest::read_manifest;
+use surf_pick::{Draw, Picker, TreePicker, WidePicker};
 use surf_rules::Names;
-use surf_sim::Sim;
+use surf_sim::{Sim, most_total};
+use surf_world::World;
 
 // The trace, the final surface and the last word, as far as the outbox holds them.
 fn print_held<L: Lattice, P: Picker, K: Sink>(
@@ -55,21 +57,48 @@ fn print_run<L: Lattice, P: Picker, K: Sink>(
     outbox.flush(out)
 }
 
-// The manifest's simulation and its names, or how the command ends without one.
-fn simulator(alloc: Global, manifest: Manifest, seed: u64) -> Option<(Sim<Grid, TreePicker>, Names)>
-    ensures { IfSome result (λ p. IsReady manifest.text seed p.0 p.1) }
+// Runs a world by one kind of picker, and prints the run.
+fn print_by<L: Lattice + Drop, P: Picker + Drop, K: Sink>(
+    alloc: Global,
+    world: World<L>,
+    names: &Names,
+    seed: u64,
+    count: u64,
+    out: &mut K,
+) -> Result<Result<(), WriteFault>, NoMemory>
+    requires names { AreBelow (length names.now) world.surface world.names }
+    requires fits { most_total world.surface < P.bound }
+    ensures printed { IfOk result (λ r. Wrote (writes K.written K.faults out.old out.new)
+        (placed_text (text_of names.now) world (words_of (seeded seed)) count) r) }
+    ensures quiet { IfErr result (λ e. out.new ≡ out.old) }
 {
-    match manifest.into_world(alloc) {
-        Ok((world, names)) => match Sim::new(alloc, world, Draw::new(seed)) {
-            Ok(sim) => Some((sim, names)),
-            Err(_) => None,
-        },
-        Err(_) => None,
+    let mut sim = Sim::<L, P>::new(alloc, world, Draw::new(seed))?;
+    Ok(print_run(&mut sim, names, count, out))
+}
+
+// The same by the fastest picker that holds the sum of the weights.
+fn print_world<L: Lattice + Drop, K: Sink>(
+    alloc: Global,
+    world: World<L>,
+    names: &Names,
+    seed: u64,
+    count: u64,
+    out: &mut K,
+) -> Result<Result<(), WriteFault>, NoMemory>
+    requires { AreBelow (length names.now) world.surface world.names }
+    ensures printed { IfOk result (λ r. Wrote (writes K.written K.faults out.old out.new)
+        (placed_text (text_of names.now) world (words_of (seeded seed)) count) r) }
+    ensures quiet { IfErr result (λ e. out.new ≡ out.old) }
+{
+    if most_total(&world) <= u128::from(u64::MAX) {
+        print_by::<L, WidePicker, K>(alloc, world, names, seed, count, out)
+    } else {
+        print_by::<L, TreePicker, K>(alloc, world, names, seed, count, out)
     }
 }
 
 /// Runs the manifest that a text spells, and prints the run. The text is given up before the
-/// simulator is built.
+/// world is built.
 pub fn run<K: Sink>(alloc: Global, input: Vec<u8>, seed: u64, count: u64, out: &mut K) -> Status
     requires { length input.items ≤ 268435456 }
     ensures ends { EndsJob (Run seed count) input.items
@@ -81,8 +110,12 @@ pub fn run<K: Sink>(alloc: Global, input: Vec<u8>, seed: u64, count: u64, out: &
         Err(fault) => return refused(fault),
     };
     drop(input);
-    let Some((mut sim, names)) = simulator(alloc, manifest, seed) else {
-        return Status::NoMemory;
+    let (world, names) = match manifest.into_world(alloc) {
+        Ok(pair) => pair,
+        Err(NoMemory) => return Status::NoMemory,
     };
-    ended(print_run(&mut sim, &names, count, out))
+    match print_world(alloc, world, &names, seed, count, out) {
+        Ok(written) => ended(written),
+        Err(NoMemory) => Status::NoMemory,
+    }
 }

@@ -1,13 +1,13 @@
-// A tree of sums chooses the events that a plain list of weights does.
-ghost use Rattle.std.specs.Prelude.{◌<◌};
+// Trees of sums choose the events that a plain list of weights does.
+ghost use Rattle.std.specs.Prelude.{◌<◌, ◌≤◌, ◌^◌};
 
 use crate::manifests::manifest;
 use std::alloc::Global;
 use std::test::Fail;
 use surf_lattice::Grid;
 use surf_manifest::read_manifest;
-use surf_pick::{Draw, Picker, PlainPicker, TreePicker};
-use surf_sim::Sim;
+use surf_pick::{Draw, Picker, PlainPicker, TreePicker, WidePicker};
+use surf_sim::{Sim, most_total};
 use surf_world::Event;
 
 const RULES: [&str; 4] = [
@@ -41,11 +41,16 @@ fn rows(alloc: Global, number: usize) -> Result<String, Fail>
 }
 
 /// The first 30 events of a manifest's run.
-pub fn events<P: Picker + Drop>(alloc: Global, text: &[u8], seed: u64) -> Result<Vec<Event>, Fail> {
+pub fn events<P: Picker + Drop>(alloc: Global, text: &[u8], seed: u64) -> Result<Vec<Event>, Fail>
+    requires { 2 ^ 64 ≤ P.bound }
+{
     if text.len() > 4096 {
         Err::<(), &str>("a long text")?;
     }
     let (world, _names) = read_manifest(alloc, text)?.into_world(alloc)?;
+    if most_total(&world) > u128::from(u64::MAX) {
+        Err::<(), &str>("great rates")?;
+    }
     let mut sim = Sim::<Grid, P>::new(alloc, world, Draw::new(seed))?;
     let mut events = Vec::new(alloc);
     for _ in 0..30 {
@@ -58,15 +63,17 @@ pub fn events<P: Picker + Drop>(alloc: Global, text: &[u8], seed: u64) -> Result
 }
 
 #[test]
-fn both_pickers_choose_alike(rt: HostRuntime) -> Result<(), Fail> {
+fn all_pickers_choose_alike(rt: HostRuntime) -> Result<(), Fail> {
     for number in 0..100usize {
         let rules = RULES[number % 4];
         let options = OPTIONS[number / 4 % 4];
         let rows = rows(rt.alloc(), number)?;
         let text = manifest(rt.alloc(), options, rules, rows.as_str())?;
         let tree = events::<TreePicker>(rt.alloc(), &text, number as u64)?;
+        let wide = events::<WidePicker>(rt.alloc(), &text, number as u64)?;
         let plain = events::<PlainPicker>(rt.alloc(), &text, number as u64)?;
         assert!(rt; tree.as_slice() == plain.as_slice(), "surface {number}");
+        assert!(rt; wide.as_slice() == plain.as_slice(), "surface {number}");
     }
     Ok(())
 }

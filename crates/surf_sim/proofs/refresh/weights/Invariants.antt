@@ -1,4 +1,4 @@
-use Rattle.std.proofs.Common.{◌≡◌, ◌≤◌, ◌^◌, All, length}
+use Rattle.std.proofs.Common.{◌≡◌, length}
 use Rattle.surf_sim.proofs.Weights.{first_weights}
 use Rattle.surf_sim.proofs.refresh.weights.Given as goal
 
@@ -6,5 +6,4 @@ abbrev pub invariant-loop-place : goal.invariant-loop-place
 invariant-loop-place g l = record {
   set : l.weights.items ≡ first_weights l.world l.place;
   long : length l.weights.items ≡ l.place;
-  small : All (λ w. w ≤ 2 ^ 64) l.weights.items;
 }

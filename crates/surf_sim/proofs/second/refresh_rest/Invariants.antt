@@ -9,7 +9,7 @@ use Rattle.surf_sim.proofs.second.refresh_rest.Given as goal
 abbrev pub invariant-loop-direction : goal.invariant-loop-direction
 invariant-loop-direction g l = record {
   set : g.P.Picker.weights l.picker ≡ refreshed l.world.surface l.world.names (l.second ∷ filter_map (neighbour l.world.surface.grid l.second) (range_with_len 0 l.direction)) (g.P.Picker.weights l.fn.picker);
-  weights : AreWeights l.world.surface.grid (g.P.Picker.weights l.picker);
+  weights : AreWeights l.world.surface (g.P.Picker.weights l.picker);
   right : AreRight l.world.surface l.world.names (around l.world.surface.grid l.first) (g.P.Picker.weights l.picker);
   sets : g.P.Picker.sets l.picker ≤ g.P.Picker.sets l.fn.picker + length (filter (is_new l.world.surface.grid l.first) (l.second ∷ filter_map (neighbour l.world.surface.grid l.second) (range_with_len 0 l.direction)));
   counted : g.P.Picker.sets l.fn.picker ≤ g.P.Picker.sets l.picker;

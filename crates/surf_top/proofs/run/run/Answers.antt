@@ -1,22 +1,29 @@
 use Rattle.std.proofs.Common.{ap, sym, ◌∙◌}
 use Rattle.surf_manifest.specs.Grammar.{manifest_of}
 use Rattle.surf_rules.specs.Names.{text_of}
-use Rattle.surf_pick.specs.Draws.{words_of}
+use Rattle.surf_pick.specs.Draws.{seeded, words_of}
 use Rattle.surf_top.specs.Jobs.{Run}
 use Rattle.surf_top.specs.Prints.{placed_text}
 use Rattle.surf_top.proofs.Ends.{text_ends, loud, output_is, shown}
 use Rattle.surf_top.proofs.run.run.Goals as goal
 
-pub returns-clause-ends : goal.returns-clause-ends
-returns-clause-ends g c =
+pub returns-in-Ok-print_world-clause-ends : goal.returns-in-Ok-print_world-clause-ends
+returns-in-Ok-print_world-clause-ends g c =
     let input = c.args.input.items in
     let m = c.in-Ok.manifest.text in
-    let sim = c.in-Some.sim in
-    let texts = c.in-Some.names in
+    let w = c.in-Ok-into_world.pair.0 in
+    let texts = c.in-Ok-into_world.pair.1 in
     let read = ap manifest_of (sym c.deref.ensures.value) ∙ c.in-Ok.ensures.ok in
-    text_ends (Run c.args.seed c.args.count) input _ (placed_text (text_of texts) sim.placed (words_of sim.generator) c.args.count) c.print_run.result _ c.ended.ensures
-    (output_is input m c.args.seed c.args.count sim texts read c.in-Some.ensures)
-    (shown input m c.args.seed c.args.count sim texts read c.in-Some.ensures) c.print_run.ensures
+    let numbered = c.in-Ok-into_world.ensures.numbered in
+    text_ends (Run c.args.seed c.args.count) input _ (placed_text (text_of texts) w (words_of (seeded c.args.seed)) c.args.count) c.in-Ok-print_world.written _ c.ended.ensures
+    (output_is input m c.args.seed c.args.count w texts read numbered)
+    (shown input m c.args.seed c.args.count w texts read numbered) c.in-Ok-print_world.ensures.printed
+
+pub returns-in-Ok-print_world-clause-quiet : goal.returns-in-Ok-print_world-clause-quiet
+returns-in-Ok-print_world-clause-quiet g c = λ quiet. absurd (loud c.in-Ok-print_world.written _ c.ended.ensures quiet)
+
+pub returns-clause-ends : goal.returns-clause-ends
+returns-clause-ends g c = ap (λ out. g.K.Sink.faults out) c.in-Err-print_world.ensures.quiet
 
 pub returns-clause-quiet : goal.returns-clause-quiet
-returns-clause-quiet g c = λ quiet. absurd (loud c.print_run.result _ c.ended.ensures quiet)
+returns-clause-quiet g c = λ quiet. c.in-Err-print_world.ensures.quiet

@@ -1,10 +1,11 @@
-use Rattle.std.proofs.Common.{◌≡◌, sym, refl, subst, Some, None, IfSome, nat_eq}
+use Rattle.std.proofs.Common.{◌≡◌, ◌<◌, sym, refl, subst, Some, None, IfSome, nat_eq}
 use Rattle.surf_lattice.specs.Grids.{IsInside}
 use Rattle.surf_world.specs.Systems.{Enabled, Stuck, after}
 use Rattle.surf_world.specs.Worlds.{Placed}
 use Rattle.surf_world.proofs.Chosen.{chosen_enabled, stuck_from_none}
 use Rattle.surf_pick.specs.Draws.{words_of}
 use Rattle.surf_sim.specs.Simulations.{Simulation, next_of}
+use Rattle.surf_sim.specs.Totals.{most_total}
 use Rattle.surf_sim.proofs.Weights.{first_inside, second_inside}
 use Rattle.surf_sim.proofs.Steps.{rest_below, next_is, none_is, none_next, right_again}
 use Rattle.surf_sim.proofs.sim.Sim.step.Goals as goal
@@ -45,8 +46,11 @@ pub invariant_of-self : goal.invariant_of-self
 invariant_of-self g c =
     let w = c.self.inside.world in
     let e = c.nth_at-event.result in
-    let f = chosen_enabled w.surface w.names c.site_at-site.result c.find-place.result.1 e c.nth_at-event.ensures in
-    (right_again w c.apply.new.self e _ _ c.apply.ensures f c.self.invariant.0 c.refresh_event.ensures.set, c.refresh_event.ensures.weights)
+    let f = chosen_enabled w.surface w.names c.site_at-site.result c.find-place.result.1 e c.nth_at-event.ensures in (
+      right_again w c.apply.new.self e _ _ c.apply.ensures f c.self.invariant.0 c.refresh_event.ensures.set,
+      c.refresh_event.ensures.weights,
+      subst (λ (n : Placed). most_total n.surface < g.P.Picker.bound) (sym c.apply.ensures) c.self.invariant.2,
+    )
 
 pub returns-clause-step : goal.returns-clause-step
 returns-clause-step g c =
