@@ -6,6 +6,7 @@
 #![tactic(auto)]
 
 mod book;
+mod hashing;
 mod index;
 mod listed;
 mod names;

@@ -4,6 +4,7 @@ ghost use Rattle.std.specs.List.{list_any};
 ghost use Rattle.std.specs.Str.{bytes_eq};
 ghost use Rattle.surf_rules.specs.Names.{AreDistinct, with_text};
 
+use crate::hashing::NameKey;
 use indexmap::IndexSet;
 use std::alloc::Global;
 use std::marker::Model;
@@ -13,7 +14,7 @@ use surf_base::NoMemory;
 #[derive(Drop)]
 pub struct Names {
     alloc: Global,
-    set: IndexSet<Vec<u8>>,
+    set: IndexSet<Vec<u8>, NameKey>,
 }
 
 impl Model for Names {
@@ -34,9 +35,17 @@ impl Names {
     pub fn new(alloc: Global) -> Names
         ensures { result ≡ [] }
     {
+        Names::keyed(alloc, &[])
+    }
+
+    /// No texts. Those to come stand in `source`, and each of its bytes decides how they are hashed,
+    /// so that none can be chosen to collide before all are. One pass over `source`, and no memory.
+    pub fn keyed(alloc: Global, source: &[u8]) -> Names
+        ensures { result ≡ [] }
+    {
         Names {
             alloc,
-            set: IndexSet::new(alloc),
+            set: IndexSet::with_hasher(alloc, NameKey::new(source)),
         }
     }
 
@@ -85,7 +94,7 @@ impl Names {
 }
 
 // Adds a name that isn't there.
-fn add(set: &mut IndexSet<Vec<u8>>, name: Vec<u8>) -> Result<(), NoMemory>
+fn add(set: &mut IndexSet<Vec<u8>, NameKey>, name: Vec<u8>) -> Result<(), NoMemory>
     requires { list_any (λ k. bytes_eq name.items k.items) set.old.keys ≡ false }
     ensures ok { OnOk result (set.new.keys ≡ set.old.keys ++ name ∷ []) }
     ensures err { OnErr result (set.new.keys ≡ set.old.keys) }
