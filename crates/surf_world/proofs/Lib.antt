@@ -11,3 +11,5 @@ pub mod Renamed
 pub mod Sums
 pub mod Once
 pub mod Outside
+pub mod Inner
+pub mod Singles

@@ -14,7 +14,7 @@ use Rattle.surf_world.proofs.Decisions.{enabled_to, enabled_from}
 use Rattle.surf_world.proofs.Places.{listed}
 use Rattle.surf_world.proofs.Members.{has_filter, filter_has, has_map, map_has, has_flat, flat_has, has_range, range_has, has_at, nothing_in, empty_has}
 
-on_passes : (test : Event → Bool) (n : ℕ) (p : Site) (q : Option Site) (e : Event) → Contains (events_on test n p q) e → test e ≡ true
+pub on_passes : (test : Event → Bool) (n : ℕ) (p : Site) (q : Option Site) (e : Event) → Contains (events_on test n p q) e → test e ≡ true
 on_passes test n p q e c = (filter_has test (map (event_of p q) (range_with_len 0 n)) e c).1
 
 toward_passes : (test : Event → Bool) (n : ℕ) (p : Site) (q : Option Site) (e : Event) → Contains (events_toward test n p q) e → test e ≡ true

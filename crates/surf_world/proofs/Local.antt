@@ -35,7 +35,7 @@ same_fits g c d e (Some r) same there =
     let b = same_second g c d e.first r.right e.second there in
     ap (λ t. nat_lt 0 r.rate && (t && second_test nat_eq g c e.first r.right e.second)) a ∙ ap (λ t. nat_lt 0 r.rate && (holds_test nat_eq g d e.first r.left && t)) b
 
-same_on : (S : Surface ℕ) (c d : List ℕ) (n : ℕ) (p : Site) (q : Option Site) → SameAt S.grid c d p → SameThere S.grid c d q → events_on (enabled_test nat_eq S c) n p q ≡ events_on (enabled_test nat_eq S d) n p q
+pub same_on : (S : Surface ℕ) (c d : List ℕ) (n : ℕ) (p : Site) (q : Option Site) → SameAt S.grid c d p → SameThere S.grid c d q → events_on (enabled_test nat_eq S c) n p q ≡ events_on (enabled_test nat_eq S d) n p q
 same_on S c d n p q same there = same_filter_map (enabled_test nat_eq S c) (enabled_test nat_eq S d) (event_of p q) (range_with_len 0 n) (λ k. same_fits S.grid c d (event_of p q k) (slice_get S.rules k) same there)
   where
     same_filter_map : {X Y : Type 0} (f g : Y → Bool) (h : X → Y) (xs : List X) → ((x : X) → f (h x) ≡ g (h x)) → filter f (map h xs) ≡ filter g (map h xs)

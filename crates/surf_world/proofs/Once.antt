@@ -53,7 +53,7 @@ once_flat f (x ∷ xs) o each one =
 
 -- ---- the sites of a listed event
 
-on_sites : (test : Event → Bool) (n : ℕ) (p : Site) (q : Option Site) (e : Event) → Contains (events_on test n p q) e → (e.first ≡ p) × (e.second ≡ q)
+pub on_sites : (test : Event → Bool) (n : ℕ) (p : Site) (q : Option Site) (e : Event) → Contains (events_on test n p q) e → (e.first ≡ p) × (e.second ≡ q)
 on_sites test n p q e c =
     let m = map_has (event_of p q) (range_with_len 0 n) e (filter_has test (map (event_of p q) (range_with_len 0 n)) e c).0 in
     (ap (λ (d : Event). d.first) (sym m.2), ap (λ (d : Event). d.second) (sym m.2))

@@ -20,7 +20,7 @@ use Rattle.surf_world.specs.declared.event.Event.{Event}
 use Rattle.surf_world.specs.Systems as systems
 use Rattle.surf_world.specs.Systems.{Surface}
 use Rattle.surf_world.specs.Worlds.{rule_of}
-use Rattle.surf_world.specs.Choices.{event_of, events_on, events_toward}
+use Rattle.surf_world.specs.Choices.{event_of, events_toward}
 use Rattle.surf_world.specs.Picks.{rate_at, rate_of, pick, Picked}
 use Rattle.surf_world.proofs.Laws.{pick_here, pick_later, pick_some, pick_second}
 use Rattle.surf_world.proofs.Members.{range_has, filter_has}
@@ -158,9 +158,8 @@ direction_found rate alone f n d rest r x lt before found =
 pub toward_adjacent : (g h : Grid) (p : Site) (i : ℕ) (q : Site) → h ≡ g → IsInside g p → i < degree g.kind → Some q ≡ neighbour h p i → Adjacent g p q
 toward_adjacent g h p i q same inside below is = adjacent_from g p i q inside below (ap (λ u. neighbour u p i) (sym same) ∙ sym is)
 
-pub toward_events : (S : Surface ℕ) (test : Event → Bool) (n : ℕ) (h : Grid) (p : Site) (i : ℕ) (q : Site) (ks : List ℕ) → h ≡ S.grid → Some q ≡ neighbour h p i
-    → events_on test n p (Some q) ≡ map (event_of p (Some q)) ks → events_toward test n p (neighbour S.grid p i) ≡ map (event_of p (Some q)) ks
-toward_events S test n h p i q ks same is events = ap (events_toward test n p) (ap (λ u. neighbour u p i) (sym same) ∙ sym is) ∙ events
+pub toward_some : (g h : Grid) (p : Site) (i : ℕ) (q : Site) → h ≡ g → Some q ≡ neighbour h p i → neighbour g p i ≡ Some q
+toward_some g h p i q same is = ap (λ u. neighbour u p i) (sym same) ∙ sym is
 
 pub toward_nothing : (S : Surface ℕ) (test : Event → Bool) (n : ℕ) (h : Grid) (p : Site) (i : ℕ) → h ≡ S.grid → None ≡ neighbour h p i → events_toward test n p (neighbour S.grid p i) ≡ []
 toward_nothing S test n h p i same is = ap (events_toward test n p) (ap (λ u. neighbour u p i) (sym same) ∙ sym is)
@@ -188,11 +187,6 @@ range_none f a (suc n) d low high is = elim (cases_eq a d) [
 pub rules_none : {X Y : Type 0} (f : X → Y) (ks : List X) (es : List Y) → es ≡ map f ks → es ≡ [] → ks ≡ []
 rules_none f ks es is none = map_none f ks (sym is ∙ none)
 
--- ---- all directions at a site
-
-pub whole_sum : {X : Type 0} (rate : X → ℕ) (alone : List X) (f : ℕ → List X) (n d s : ℕ) → d ≡ n → s ≡ sum_by rate alone + sum_by rate (flat_map f (range_with_len 0 d)) → s ≡ sum_by rate (alone ++ flat_map f (range_with_len 0 n))
-whole_sum rate alone f n d s same is = is ∙ ap (λ m. sum_by rate alone + sum_by rate (flat_map f (range_with_len 0 m))) same ∙ sym (sum_by-append rate alone (flat_map f (range_with_len 0 n)))
-
 pub busy_alone : {X Y : Type 0} (f : X → Y) (ks : List X) (alone others : List Y) → alone ≡ map f ks → (ks ≡ [] → ⊥) → alone ++ others ≡ [] → ⊥
 busy_alone f ks alone others is some none = some (rules_none f ks alone is (append_none alone others none).0)
 
@@ -204,12 +198,6 @@ idle_more f d none here = directions_more f d ∙ ap (λ l. l ++ f d) none ∙ h
 
 pub idle_whole : {X Y : Type 0} (f : X → Y) (ks : List X) (alone : List Y) (toward : ℕ → List Y) (n d : ℕ) → alone ≡ map f ks → ks ≡ [] → d ≡ n → flat_map toward (range_with_len 0 d) ≡ [] → alone ++ flat_map toward (range_with_len 0 n) ≡ []
 idle_whole f ks alone toward n d is none same others = ap (λ l. l ++ flat_map toward (range_with_len 0 n)) (is ∙ ap (map f) none) ∙ ap (λ m. flat_map toward (range_with_len 0 m)) (sym same) ∙ others
-
-pub alone_sum : (S : Surface ℕ) (alone : List Event) (p : Site) (q : Option Site) (ks : List ℕ) (s : ℕ) → alone ≡ map (event_of p q) ks → s ≡ sum_by (rate_at S.rules) ks → s ≡ sum_by (rate_of S) alone + 0
-alone_sum S alone p q ks s is sum = let e = ap (sum_by (rate_of S)) is ∙ sum_of_events S p q ks in omega (arith, e, sum)
-
-pub alone_rest : {X : Type 0} (rate : X → ℕ) (alone es : List X) (rest r : ℕ) → alone ≡ es → sum_by rate es + rest ≡ r → sum_by rate alone + 0 + rest ≡ r
-alone_rest rate alone es rest r is before = let e = ap (sum_by rate) is in omega (arith, e, before)
 
 pub alone_picked : {X : Type 0} (rate : X → ℕ) (alone es others : List X) (r : ℕ) (x : X) → alone ≡ es → pick rate es r ≡ Some x → pick rate (alone ++ others) r ≡ Some x
 alone_picked rate alone es others r x is found = pick_some rate alone others r x (ap (λ l. pick rate l r) is ∙ found)

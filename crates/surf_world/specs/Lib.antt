@@ -3,3 +3,4 @@ pub mod Choices
 pub mod Worlds
 pub mod Picks
 pub mod Renamings
+pub mod Inner

@@ -1,5 +1,5 @@
 -- Rates, the choice of a number, and the weights of sites.
-use Rattle.std.specs.Prelude.{ℕ, ◌+◌, ◌-◌, ◌≡◌, nat_lt, nat_eq, Bool, List, [], ◌∷◌, ◌++◌, map, flat_map, sum_by, Option, Some, None, slice_get, slice_set, Result, Ok, Err, if◌then◌else◌}
+use Rattle.std.specs.Prelude.{ℕ, ◌+◌, ◌-◌, ◌≡◌, ◌<◌, nat_lt, nat_eq, Bool, List, [], ◌∷◌, ◌++◌, map, flat_map, sum_by, Option, Some, None, slice_get, slice_set, Result, Ok, Err, if◌then◌else◌}
 use Rattle.std.specs.Option.{option_map_or, option_to_list}
 use Rattle.surf_lattice.specs.declared.site.Site.{Site}
 use Rattle.surf_lattice.specs.Grids.{Grid, neighbours, place, sites}
@@ -49,3 +49,8 @@ around_event g e = around g e.first ++ flat_map (around g) (option_to_list e.sec
 abbrev pub refreshed : Surface ℕ → List ℕ → List Site → List ℕ → List ℕ
 refreshed S c [] ws = ws
 refreshed S c (p ∷ ps) ws = refreshed S c ps (slice_set ws (place S.grid p) (weight_of S c p))
+
+-- no rule of rate above 0 has this name as the first of two
+abbrev pub IsSingle : List (Rule ℕ) → ℕ → Type 0
+IsSingle rules a = (k : ℕ) (r : Rule ℕ) → slice_get rules k ≡ Some r → 0 < r.rate → r.left ≡ a →
+    r.right ≡ None

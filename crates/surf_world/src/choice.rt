@@ -32,21 +32,6 @@ impl<L: Lattice> World<L> {
         self.book().pair(self.at(first), self.at(second))
     }
 
-    // The sum of the rates of these rules.
-    fn sum_of(&self, numbers: &[u32]) -> u128
-        requires known { All (λ k. k < length self.now.surface.rules) numbers.now }
-        requires few { length numbers.now ≤ 1048576 }
-        ensures sum { result ≡ sum_by (rate_at self.now.surface.rules) numbers.now }
-        ensures bound { result ≤ 1048576 * 1000000000000 }
-    {
-        let book = self.book();
-        let mut sum = 0;
-        for number in numbers {
-            sum += u128::from(book.rule(*number).rate);
-        }
-        sum
-    }
-
     // The first event of these rules, at these sites, at which the running sum of rates exceeds
     // r, or what is left of r behind them.
     fn nth_of(
@@ -76,35 +61,32 @@ impl<L: Lattice> World<L> {
         Err(rest)
     }
 
-    fn weight_toward(&self, site: Site, direction: u32) -> u128
-        requires site { IsInside self.now.surface.grid site }
-        requires direction { direction < degree self.now.surface.grid.kind }
-        ensures sum { result ≡ sum_by (rate_of self.now.surface)
-            (events_toward (enabled_test nat_eq self.now.surface self.now.names)
-            (length self.now.surface.rules) site (neighbour self.now.surface.grid site direction)) }
-        ensures bound { result ≤ 1048576 * 1000000000000 }
+    // The event at this site alone that a number chooses, or what is left of the number.
+    fn nth_alone(&self, site: Site, r: u128) -> Result<Event, u128>
+        requires { IsInside self.now.surface.grid site }
+        ensures { Picked (rate_of self.now.surface)
+            (events_on (enabled_test nat_eq self.now.surface self.now.names)
+            (length self.now.surface.rules) site None) r result }
     {
-        match self.grid().neighbour(site, direction) {
-            Some(second) => self.sum_of(self.rules_between(site, second)),
-            None => 0,
+        let sum = u128::from(self.alone_weight(site));
+        if r >= sum {
+            return Err(r - sum);
         }
+        self.nth_of(self.rules_at(site), site, None, r)
     }
 
-    /// The sum of the rates of the enabled events whose first site is this one, in millionths. No
-    /// event begins at a site outside.
-    pub fn weight_at(&self, site: Site) -> u128
-        ensures sum { result ≡ weight_of self.now.surface self.now.names site }
-        ensures outside { (IsInside self.now.surface.grid site → ⊥) → result ≡ 0 }
-        ensures bound { result ≤ 7 * (1048576 * 1000000000000) }
+    // The event of these two sites in this order that a number chooses, or what is left of it.
+    fn nth_between(&self, first: Site, second: Site, r: u128) -> Result<Event, u128>
+        requires { Adjacent self.now.surface.grid first second }
+        ensures { Picked (rate_of self.now.surface)
+            (events_on (enabled_test nat_eq self.now.surface self.now.names)
+            (length self.now.surface.rules) first (Some second)) r result }
     {
-        if !self.contains(site) {
-            return 0;
+        let sum = u128::from(self.pair_weight(self.at(first), self.at(second)));
+        if r >= sum {
+            return Err(r - sum);
         }
-        let mut sum = self.sum_of(self.rules_at(site));
-        for direction in 0..self.grid().degree() {
-            sum += self.weight_toward(site, direction);
-        }
-        sum
+        self.nth_of(self.rules_between(first, second), first, Some(second), r)
     }
 
     fn nth_toward(&self, site: Site, direction: u32, r: u128) -> Result<Event, u128>
@@ -116,7 +98,7 @@ impl<L: Lattice> World<L> {
             (neighbour self.now.surface.grid site direction)) r result }
     {
         match self.grid().neighbour(site, direction) {
-            Some(second) => self.nth_of(self.rules_between(site, second), site, Some(second), r),
+            Some(second) => self.nth_between(site, second, r),
             None => Err(r),
         }
     }
@@ -129,7 +111,7 @@ impl<L: Lattice> World<L> {
         ensures { pick (rate_of self.now.surface)
             (choices_at nat_eq self.now.surface self.now.names site) r ≡ Some result }
     {
-        let mut rest = match self.nth_of(self.rules_at(site), site, None, r) {
+        let mut rest = match self.nth_alone(site, r) {
             Ok(event) => return event,
             Err(rest) => rest,
         };

@@ -9,6 +9,7 @@
 mod choice;
 mod event;
 mod theorems;
+mod weight;
 mod world;
 
 pub use event::Event;

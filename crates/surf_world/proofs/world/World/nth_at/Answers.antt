@@ -1,22 +1,22 @@
-use Rattle.std.proofs.Common.{arith, ℕ, nat_eq, length, ◌≡◌, ap, ◌∙◌, None}
+use Rattle.std.proofs.Common.{arith, ℕ, nat_eq, length, ◌≡◌, ap, refl, ◌∙◌, None}
 use Rattle.surf_lattice.specs.Grids.{Grid, neighbour, degree}
 use Rattle.surf_world.specs.Choices.{enabled_test, events_on, events_toward}
 use Rattle.surf_world.specs.Picks.{rate_of}
-use Rattle.surf_world.proofs.Sums.{directions_sum, direction_found, alone_picked, alone_rest}
+use Rattle.surf_world.proofs.Sums.{directions_sum, direction_found, alone_picked}
 use Rattle.surf_world.proofs.Outside.{weight_inside}
 use Rattle.surf_world.proofs.world.World.nth_at.Goals as goal
 
-pub rules_at-requires : goal.rules_at-requires
-rules_at-requires g c = weight_inside c.args.self.now.surface c.args.self.now.names c.args.site c.args.r c.requires
+pub nth_alone-requires : goal.nth_alone-requires
+nth_alone-requires g c = weight_inside c.args.self.now.surface c.args.self.now.names c.args.site c.args.r c.requires
 
 pub nth_toward-requires-clause-site : goal.nth_toward-requires-clause-site
 nth_toward-requires-clause-site g c = weight_inside c.args.self.now.surface c.args.self.now.names c.args.site c.args.r c.requires
 
 pub returns-in-Ok : goal.returns-in-Ok
-returns-in-Ok g c = alone_picked (rate_of c.args.self.now.surface) _ _ _ c.args.r c.in-Ok.event c.rules_at.ensures.events c.in-Ok.ensures
+returns-in-Ok g c = alone_picked (rate_of c.args.self.now.surface) _ _ _ c.args.r c.in-Ok.event refl c.in-Ok.ensures
 
 pub loop-direction-init : goal.loop-direction-init
-loop-direction-init g c = alone_rest (rate_of c.args.self.now.surface) _ _ c.in-Err.rest c.args.r c.rules_at.ensures.events c.in-Err.ensures
+loop-direction-init g c = omega (arith, c.in-Err.ensures)
 
 pub loop-direction-preserved : goal.loop-direction-preserved
 loop-direction-preserved g c =
