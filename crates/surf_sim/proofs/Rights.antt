@@ -2,7 +2,7 @@
 use Rattle.std.specs.Prelude.{Contains, slice_index, slice_set}
 use Rattle.std.specs.List.{filter, filter_map, flat_map, range_with_len}
 use Rattle.std.specs.Option.{option_to_list}
-use Rattle.std.proofs.Common.{ℕ, ◌≡◌, ◌+◌, ◌*◌, ◌<◌, ◌≤◌, inl, inr, Bool, false, Option, List, [], ◌∷◌, ◌++◌, length, length-append, sym, ◌∙◌, ap, subst, arith, suc, length-set}
+use Rattle.std.proofs.Common.{ℕ, ◌≡◌, ◌+◌, ◌*◌, ◌<◌, ◌≤◌, inl, inr, Bool, false, Option, Some, None, List, [], ◌∷◌, ◌++◌, length, length-append, sym, ◌∙◌, ap, subst, arith, suc, length-set}
 use Rattle.std.proofs.lemmas.Bool.{cases_eq, false≢true}
 use Rattle.std.proofs.lemmas.List.{get_or-set_other, get_or-set_same, set-get_or}
 use Rattle.std.proofs.lemmas.List.Elements.{filter-append}
@@ -16,7 +16,7 @@ use Rattle.surf_world.proofs.Members.{has_here, has_first, has_later, has_cases,
 use Rattle.surf_world.proofs.Places.{one_place, place_in}
 use Rattle.surf_lattice.proofs.Neighbours.{listed_adjacent}
 use Rattle.surf_sim.specs.Simulations.{AreWeights}
-use Rattle.surf_sim.specs.Touched.{is_new, touched, AreRight}
+use Rattle.surf_sim.specs.Touched.{is_new, touched, AreRight, AreSettled, IsSettled}
 use Rattle.surf_sim.proofs.Touched.{new_or_not}
 
 -- all of these sites are inside
@@ -95,6 +95,35 @@ passed_over S c p q ws right old = elim (new_or_not S.grid p q) [
   | inl new ↦ absurd (false≢true (sym old ∙ new))
   | inr has ↦ right_stays S c p q ws right has
 ]
+
+-- once a changed site is set, it is settled too
+pub settled_done : (S : Surface ℕ) (c : List ℕ) (q : Site) (rest : List Site) (old new : List ℕ) → IsInside S.grid q → AreWeights S old → AreSettled S c (q ∷ rest) old
+    → new ≡ slice_set old (place S.grid q) (weight_of S c q) → AreSettled S c rest new
+settled_done S c q rest old new q_inside weights settled is p a inside at single out =
+    let set_to : List ℕ = slice_set old (place S.grid q) (weight_of S c q) in
+    ap (λ v. slice_index v (place S.grid p)) is ∙ elim (cases_eq (place S.grid q) (place S.grid p)) [
+      | inl e ↦ ap (λ n. slice_index (slice_set old (place S.grid q) (weight_of S c q)) n) (sym e)
+          ∙ get_or-set_same old (place S.grid q) (weight_of S c q) 0 (place_within S.grid old q weights.count q_inside)
+          ∙ ap (weight_of S c) (one_place S.grid q p q_inside inside e)
+      | inr ne ↦ get_or-set_other old (place S.grid q) (place S.grid p) (weight_of S c q) 0 (λ e. ne (sym e))
+          ∙ settled p a inside at single (λ has. elim (has_cases q rest p has) [ inl e ↦ ne (ap (place S.grid) e) | inr d ↦ out d ])
+    ]
+
+-- and a further set keeps what is settled
+pub settled_kept : (S : Surface ℕ) (c : List ℕ) (q : Site) (changed : List Site) (old new : List ℕ) → IsInside S.grid q → AreWeights S old → AreSettled S c changed old
+    → new ≡ slice_set old (place S.grid q) (weight_of S c q) → AreSettled S c changed new
+settled_kept S c q changed old new q_inside weights settled is =
+    settled_done S c q changed old new q_inside weights (λ p a inside at single out. settled p a inside at single (λ has. out (has_later q changed p has))) is
+
+only_one : (o : Option Site) (p : Site) → Contains (option_to_list o) p → o ≡ Some p
+only_one None p has = absurd (has_none p has)
+only_one (Some q) p has = elim (has_cases q [] p has) [ inl e ↦ ap (λ (v : Site). Some v) e | inr d ↦ absurd (has_none p d) ]
+
+-- setting a settled weight changes nothing
+pub settled_stays : (S : Surface ℕ) (c : List ℕ) (changed : Option Site) (p : Site) (ws : List ℕ) → IsInside S.grid p → AreSettled S c (option_to_list changed) ws → IsSettled S c changed p → ws ≡ slice_set ws (place S.grid p) (weight_of S c p)
+settled_stays S c changed p ws inside settled here =
+    let right = settled p here.0 inside here.1 here.2 (λ has. here.3 (only_one changed p has)) in
+    sym (ap (λ w. slice_set ws (place S.grid p) w) (sym right) ∙ set-get_or ws (place S.grid p) 0)
 
 -- one direction more, and all of them
 found_next : (g : Grid) (p : Site) (d : ℕ) → filter_map (neighbour g p) (range_with_len 0 (d + 1)) ≡ filter_map (neighbour g p) (range_with_len 0 d) ++ option_to_list (neighbour g p d)

@@ -1,15 +1,20 @@
 -- A step is the next event, and keeps the weights right.
-use Rattle.std.proofs.Common.{ℕ, ◌≡◌, ◌+◌, ◌<◌, List, [], ◌∷◌, take, map, sum, sum_by, slice_index, Option, Some, None, slice_get, nat_eq, sym, ◌∙◌, ap, subst, arith, zero, suc}
-use Rattle.std.specs.Option.{option_map}
+use Rattle.std.proofs.Common.{ℕ, ◌≡◌, ◌+◌, ◌<◌, List, [], ◌∷◌, take, map, sum, sum_by, slice_index, inl, inr, Option, Some, None, slice_get, nat_eq, sym, ◌∙◌, ap, subst, arith, zero, suc}
+use Rattle.std.specs.Prelude.{Contains}
+use Rattle.std.specs.Option.{option_map, option_to_list}
 use Rattle.rand_core.specs.Stream.{Stream}
 use Rattle.surf_lattice.specs.declared.site.Site.{Site}
-use Rattle.surf_lattice.specs.Grids.{sites}
+use Rattle.surf_lattice.specs.Grids.{place, sites}
 use Rattle.surf_world.specs.declared.event.Event.{Event}
 use Rattle.surf_world.specs.Systems.{Enabled, after}
 use Rattle.surf_world.specs.Worlds.{Placed}
 use Rattle.surf_world.specs.Choices.{choices_at, choices}
 use Rattle.surf_world.specs.Picks.{rate_of, pick, weight_of, weights_of, around_event, refreshed}
-use Rattle.surf_world.proofs.Around.{refreshed_is}
+use Rattle.surf_world.proofs.Around.{refreshed_is, after_other, event_inside}
+use Rattle.surf_world.proofs.Members.{has_first, has_later}
+use Rattle.surf_world.proofs.Places.{one_place, listed}
+use Rattle.surf_world.proofs.Singles.{single_keeps}
+use Rattle.surf_sim.specs.Touched.{AreSettled}
 use Rattle.surf_world.proofs.Laws.{pick_along, weights_sum}
 use Rattle.surf_world.proofs.Chosen.{none_left}
 use Rattle.surf_pick.specs.Draws.{draw_below}
@@ -53,3 +58,22 @@ right_again w new e ws vs is f right set =
     subst (λ (n : Placed). vs ≡ refreshed n.surface n.names (around_event n.surface.grid e) ws) is set
     ∙ refreshed_is w.surface w.names e ws f right
     ∙ ap weights_of (sym is)
+
+in_option : (o : Option Site) (p : Site) → o ≡ Some p → Contains (option_to_list o) p
+in_option None p e = cc
+in_option (Some q) p e = has_first q [] p (let same : q ≡ p = cc in same)
+
+-- after an event, names that begin no pair have their weights, but for the event's own sites
+pub settled_after : (w new : Placed) (e : Event) (ws : List ℕ) → new ≡ record w { names = after w.surface w.names e } → Enabled w.surface w.names e → ws ≡ weights_of w
+    → AreSettled new.surface new.names (e.first ∷ option_to_list e.second) ws
+settled_after w new e ws is f right =
+    subst (λ (n : Placed). AreSettled n.surface n.names (e.first ∷ option_to_list e.second) ws) (sym is) (λ p a inside at single out.
+    let S = w.surface in
+    let own = map_at (weight_of S w.names) (sites S.grid) (place S.grid p) p (listed S.grid p inside) in
+    let stays = after_other S w.names e (place S.grid p) (λ q at_q same.
+    let one = one_place S.grid q p (event_inside S w.names e f q at_q) inside same in
+    out (elim at_q [
+      | inl x ↦ has_first e.first (option_to_list e.second) p (x ∙ one)
+      | inr x ↦ has_later e.first (option_to_list e.second) p (in_option e.second p (x ∙ ap (λ (v : Site). Some v) one))
+    ])) in
+    ap (λ v. slice_index v (place S.grid p)) right ∙ own ∙ single_keeps S w.names (after S w.names e) p a (sym stays ∙ at) at single)

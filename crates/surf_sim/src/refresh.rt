@@ -1,11 +1,11 @@
 // The weights around an event, set anew.
-ghost use Rattle.std.specs.Prelude.{◌≡◌, ◌≤◌, ◌<◌, ◌+◌, IfSome, length, slice_set, sum, IfOk};
+ghost use Rattle.std.specs.Prelude.{◌≡◌, ◌≤◌, ◌<◌, ◌+◌, ◌∷◌, IsTrue, IfSome, length, slice_set, sum, IfOk};
 ghost use Rattle.std.specs.Option.{option_to_list};
 ghost use Rattle.surf_lattice.specs.Grids.{IsInside, place};
 ghost use Rattle.surf_world.specs.Picks.{weight_of, weights_of, around, around_event, refreshed};
 ghost use Rattle.surf_sim.specs.Simulations.{AreWeights};
 ghost use Rattle.surf_sim.specs.Totals.{most_total};
-ghost use Rattle.surf_sim.specs.Touched.{touched, AreRight};
+ghost use Rattle.surf_sim.specs.Touched.{touched, AreRight, AreSettled, IsSettled};
 
 use crate::second::refresh_second;
 use std::alloc::Global;
@@ -29,12 +29,15 @@ pub(crate) fn weights<L: Lattice>(alloc: Global, world: &World<L>) -> Result<Vec
     Ok(weights)
 }
 
-/// Sets the weights of the sites of an event and of their neighbours anew, each once.
+/// Sets the weights of the sites of an event and of their neighbours anew, each once. A neighbour
+/// whose name begins no pair keeps its weight, and is passed over.
 pub(crate) fn refresh_event<L: Lattice, P: Picker>(world: &World<L>, picker: &mut P, event: &Event)
     requires first { IsInside world.now.surface.grid event.now.first }
     requires second { IfSome event.now.second (IsInside world.now.surface.grid) }
     requires weights { AreWeights world.now.surface (P.weights picker.old) }
     requires fits { most_total world.now.surface < P.bound }
+    requires settled { AreSettled world.now.surface world.now.names
+        (event.now.first ∷ option_to_list event.now.second) (P.weights picker.old) }
     ensures set { P.weights picker.new
         ≡ refreshed world.now.surface world.now.names
         (around_event world.now.surface.grid event.now) (P.weights picker.old) }
@@ -44,19 +47,28 @@ pub(crate) fn refresh_event<L: Lattice, P: Picker>(world: &World<L>, picker: &mu
     ensures sets { P.sets picker.new ≤ P.sets picker.old + 14 }
     ensures counted { P.sets picker.old ≤ P.sets picker.new }
 {
-    refresh_around(world, picker, event.first);
+    refresh_around(world, picker, event.first, event.second);
     refresh_second(world, picker, event.first, event.second);
 }
 
-fn refresh_around<L: Lattice, P: Picker>(world: &World<L>, picker: &mut P, site: Site)
+fn refresh_around<L: Lattice, P: Picker>(
+    world: &World<L>,
+    picker: &mut P,
+    site: Site,
+    changed: Option<Site>,
+)
     requires site { IsInside world.now.surface.grid site }
     requires weights { AreWeights world.now.surface (P.weights picker.old) }
     requires fits { most_total world.now.surface < P.bound }
+    requires settled { AreSettled world.now.surface world.now.names
+        (site ∷ option_to_list changed) (P.weights picker.old) }
     ensures set { P.weights picker.new
         ≡ refreshed world.now.surface world.now.names (around world.now.surface.grid site)
         (P.weights picker.old) }
     ensures weights { AreWeights world.now.surface (P.weights picker.new) }
     ensures right { AreRight world.now.surface world.now.names (around world.now.surface.grid site)
+        (P.weights picker.new) }
+    ensures settled { AreSettled world.now.surface world.now.names (option_to_list changed)
         (P.weights picker.new) }
     ensures sets { P.sets picker.new ≤ P.sets picker.old + length
         (around world.now.surface.grid site) }
@@ -64,23 +76,74 @@ fn refresh_around<L: Lattice, P: Picker>(world: &World<L>, picker: &mut P, site:
 {
     refresh(world, picker, site);
     for direction in 0..world.grid().degree() {
-        refresh_some(world, picker, world.grid().neighbour(site, direction));
+        refresh_some(
+            world,
+            picker,
+            changed,
+            world.grid().neighbour(site, direction),
+        );
     }
 }
 
-fn refresh_some<L: Lattice, P: Picker>(world: &World<L>, picker: &mut P, site: Option<Site>)
+fn refresh_some<L: Lattice, P: Picker>(
+    world: &World<L>,
+    picker: &mut P,
+    changed: Option<Site>,
+    site: Option<Site>,
+)
     requires site { IfSome site (IsInside world.now.surface.grid) }
     requires weights { AreWeights world.now.surface (P.weights picker.old) }
     requires fits { most_total world.now.surface < P.bound }
+    requires settled { AreSettled world.now.surface world.now.names (option_to_list changed)
+        (P.weights picker.old) }
     ensures set { P.weights picker.new
         ≡ refreshed world.now.surface world.now.names (option_to_list site) (P.weights picker.old) }
     ensures weights { AreWeights world.now.surface (P.weights picker.new) }
+    ensures settled { AreSettled world.now.surface world.now.names (option_to_list changed)
+        (P.weights picker.new) }
     ensures sets { P.sets picker.new ≤ P.sets picker.old + length (option_to_list site) }
     ensures counted { P.sets picker.old ≤ P.sets picker.new }
 {
     if let Some(site) = site {
+        refresh_unsettled(world, picker, changed, site);
+    }
+}
+
+/// Sets the weight of a site anew, unless it is not the changed one and begins no pair.
+pub(crate) fn refresh_unsettled<L: Lattice, P: Picker>(
+    world: &World<L>,
+    picker: &mut P,
+    changed: Option<Site>,
+    site: Site,
+)
+    requires site { IsInside world.now.surface.grid site }
+    requires weights { AreWeights world.now.surface (P.weights picker.old) }
+    requires fits { most_total world.now.surface < P.bound }
+    requires settled { AreSettled world.now.surface world.now.names (option_to_list changed)
+        (P.weights picker.old) }
+    ensures set { P.weights picker.new
+        ≡ slice_set (P.weights picker.old) (place world.now.surface.grid site)
+        (weight_of world.now.surface world.now.names site) }
+    ensures weights { AreWeights world.now.surface (P.weights picker.new) }
+    ensures settled { AreSettled world.now.surface world.now.names (option_to_list changed)
+        (P.weights picker.new) }
+    ensures sets { P.sets picker.new ≤ P.sets picker.old + 1 }
+    ensures counted { P.sets picker.old ≤ P.sets picker.new }
+{
+    if !is_settled(world, changed, site) {
         refresh(world, picker, site);
     }
+}
+
+// Whether an event beside a site can't change its weight.
+fn is_settled<L: Lattice>(world: &World<L>, changed: Option<Site>, site: Site) -> bool
+    requires { IsInside world.now.surface.grid site }
+    ensures { IsTrue result → IsSettled world.now.surface world.now.names changed site }
+{
+    if changed == Some(site) {
+        return false;
+    }
+    !world.book().is_paired(world.at(site))
 }
 
 pub(crate) fn refresh<L: Lattice, P: Picker>(world: &World<L>, picker: &mut P, site: Site)

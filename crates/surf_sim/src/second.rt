@@ -1,19 +1,19 @@
 // The weights around an event's second site.
-ghost use Rattle.std.specs.Prelude.{◌≡◌, ◌≤◌, ◌<◌, ◌+◌, ◌∷◌, [], IfSome, filter, flat_map, length, slice_set};
+ghost use Rattle.std.specs.Prelude.{◌≡◌, ◌≤◌, ◌+◌, ◌∷◌, [], IfSome, filter, flat_map, length, slice_set};
 ghost use Rattle.std.specs.Option.{option_to_list};
 ghost use Rattle.surf_lattice.specs.Grids.{IsInside, place};
 ghost use Rattle.surf_world.specs.Picks.{weight_of, around, refreshed};
 ghost use Rattle.surf_sim.specs.Simulations.{AreWeights};
 ghost use Rattle.surf_sim.specs.Totals.{most_total};
-ghost use Rattle.surf_sim.specs.Touched.{is_new, AreRight};
+ghost use Rattle.surf_sim.specs.Touched.{is_new, AreRight, AreSettled};
 
-use crate::refresh::refresh;
+use crate::refresh::refresh_unsettled;
 use surf_lattice::{Lattice, Site};
 use surf_pick::Picker;
 use surf_world::World;
 
 /// Sets the weights around the second site anew, where there is one. The sites around the first
-/// one have their weights already, and are passed over.
+/// one have their weights already, and are passed over, as are neighbours that begin no pair.
 pub(crate) fn refresh_second<L: Lattice, P: Picker>(
     world: &World<L>,
     picker: &mut P,
@@ -26,6 +26,8 @@ pub(crate) fn refresh_second<L: Lattice, P: Picker>(
     requires fits { most_total world.now.surface < P.bound }
     requires right { AreRight world.now.surface world.now.names
         (around world.now.surface.grid first) (P.weights picker.old) }
+    requires settled { AreSettled world.now.surface world.now.names (option_to_list second)
+        (P.weights picker.old) }
     ensures set { P.weights picker.new
         ≡ refreshed world.now.surface world.now.names
         (flat_map (around world.now.surface.grid) (option_to_list second)) (P.weights picker.old) }
@@ -47,6 +49,8 @@ fn refresh_rest<L: Lattice, P: Picker>(world: &World<L>, picker: &mut P, first: 
     requires fits { most_total world.now.surface < P.bound }
     requires right { AreRight world.now.surface world.now.names
         (around world.now.surface.grid first) (P.weights picker.old) }
+    requires settled { AreSettled world.now.surface world.now.names (second ∷ [])
+        (P.weights picker.old) }
     ensures set { P.weights picker.new
         ≡ refreshed world.now.surface world.now.names (around world.now.surface.grid second)
         (P.weights picker.old) }
@@ -55,7 +59,7 @@ fn refresh_rest<L: Lattice, P: Picker>(world: &World<L>, picker: &mut P, first: 
         (filter (is_new world.now.surface.grid first) (around world.now.surface.grid second)) }
     ensures counted { P.sets picker.old ≤ P.sets picker.new }
 {
-    refresh_new(world, picker, first, second);
+    refresh_new(world, picker, first, Some(second), second);
     for direction in 0..world.grid().degree() {
         refresh_new_some(
             world,
@@ -78,39 +82,51 @@ fn refresh_new_some<L: Lattice, P: Picker>(
     requires fits { most_total world.now.surface < P.bound }
     requires right { AreRight world.now.surface world.now.names
         (around world.now.surface.grid first) (P.weights picker.old) }
+    requires settled { AreSettled world.now.surface world.now.names [] (P.weights picker.old) }
     ensures set { P.weights picker.new
         ≡ refreshed world.now.surface world.now.names (option_to_list site) (P.weights picker.old) }
     ensures weights { AreWeights world.now.surface (P.weights picker.new) }
     ensures right { AreRight world.now.surface world.now.names (around world.now.surface.grid first)
         (P.weights picker.new) }
+    ensures settled { AreSettled world.now.surface world.now.names [] (P.weights picker.new) }
     ensures sets { P.sets picker.new ≤ P.sets picker.old + length
         (filter (is_new world.now.surface.grid first) (option_to_list site)) }
     ensures counted { P.sets picker.old ≤ P.sets picker.new }
 {
     if let Some(site) = site {
-        refresh_new(world, picker, first, site);
+        refresh_new(world, picker, first, None, site);
     }
 }
 
-fn refresh_new<L: Lattice, P: Picker>(world: &World<L>, picker: &mut P, first: Site, site: Site)
+fn refresh_new<L: Lattice, P: Picker>(
+    world: &World<L>,
+    picker: &mut P,
+    first: Site,
+    changed: Option<Site>,
+    site: Site,
+)
     requires first { IsInside world.now.surface.grid first }
     requires site { IsInside world.now.surface.grid site }
     requires weights { AreWeights world.now.surface (P.weights picker.old) }
     requires fits { most_total world.now.surface < P.bound }
     requires right { AreRight world.now.surface world.now.names
         (around world.now.surface.grid first) (P.weights picker.old) }
+    requires settled { AreSettled world.now.surface world.now.names (option_to_list changed)
+        (P.weights picker.old) }
     ensures set { P.weights picker.new
         ≡ slice_set (P.weights picker.old) (place world.now.surface.grid site)
         (weight_of world.now.surface world.now.names site) }
     ensures weights { AreWeights world.now.surface (P.weights picker.new) }
     ensures right { AreRight world.now.surface world.now.names (around world.now.surface.grid first)
         (P.weights picker.new) }
+    ensures settled { AreSettled world.now.surface world.now.names (option_to_list changed)
+        (P.weights picker.new) }
     ensures sets { P.sets picker.new ≤ P.sets picker.old + length
         (filter (is_new world.now.surface.grid first) (site ∷ [])) }
     ensures counted { P.sets picker.old ≤ P.sets picker.new }
 {
     if is_new(world.grid(), first, site) {
-        refresh(world, picker, site);
+        refresh_unsettled(world, picker, changed, site);
     }
 }
 

@@ -5,7 +5,7 @@ use Rattle.surf_sim.proofs.second.refresh_new.Goals as goal
 pub returns-then-is_new-clause-right : goal.returns-then-is_new-clause-right
 returns-then-is_new-clause-right g c =
     let w = c.args.world.now in
-    still_right w.surface w.names c.args.first c.args.site _ _ c.requires.first c.requires.site c.requires.weights c.requires.right c.refresh.ensures.set
+    still_right w.surface w.names c.args.first c.args.site _ _ c.requires.first c.requires.site c.requires.weights c.requires.right c.refresh_unsettled.ensures.set
 
 pub returns-else-is_new-clause-set : goal.returns-else-is_new-clause-set
 returns-else-is_new-clause-set g c =

@@ -7,7 +7,7 @@ use Rattle.surf_pick.specs.Draws.{words_of}
 use Rattle.surf_sim.specs.Simulations.{Simulation, next_of}
 use Rattle.surf_sim.specs.Totals.{most_total}
 use Rattle.surf_sim.proofs.Weights.{first_inside, second_inside}
-use Rattle.surf_sim.proofs.Steps.{rest_below, next_is, none_is, none_next, right_again}
+use Rattle.surf_sim.proofs.Steps.{rest_below, next_is, none_is, none_next, right_again, settled_after}
 use Rattle.surf_sim.proofs.sim.Sim.step.Goals as goal
 
 pub returns-then-total-eq0-clause-step : goal.returns-then-total-eq0-clause-step
@@ -41,6 +41,13 @@ refresh_event-requires-clause-second g c =
     let e = c.nth_at-event.result in
     let f = chosen_enabled w.surface w.names c.site_at-site.result c.find-place.result.1 e c.nth_at-event.ensures in
     subst (λ (n : Placed). IfSome c.nth_at-event.result.second (IsInside n.surface.grid)) (sym c.apply.ensures) (second_inside w.surface w.names e f)
+
+pub refresh_event-requires-clause-settled : goal.refresh_event-requires-clause-settled
+refresh_event-requires-clause-settled g c =
+    let w = c.self.inside.world in
+    let e = c.nth_at-event.result in
+    let f = chosen_enabled w.surface w.names c.site_at-site.result c.find-place.result.1 e c.nth_at-event.ensures in
+    settled_after w c.apply.new.self e _ c.apply.ensures f c.self.invariant.0
 
 pub invariant_of-self : goal.invariant_of-self
 invariant_of-self g c =
