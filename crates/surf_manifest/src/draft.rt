@@ -51,7 +51,8 @@ fn text(alloc: Global, bytes: &[u8]) -> Result<Text, NoMemory>
 }
 
 impl Draft {
-    pub fn new(alloc: Global) -> Draft
+    /// Nothing yet of a text.
+    pub fn new(alloc: Global, source: &[u8]) -> Draft
         ensures draft { IsDraft result }
         ensures held { held_by result ≡ at_start.held }
     {
@@ -59,7 +60,7 @@ impl Draft {
             kind: GridKind::Square,
             wrap: false,
             options: Vec::new(alloc),
-            names: Interner::new(alloc),
+            names: Interner::new(alloc, source),
             rules: Vec::new(alloc),
             rule_count: 0,
             width: 0,

@@ -1,5 +1,5 @@
 // Names, with the numbers of those that came lately.
-ghost use Rattle.std.specs.Prelude.{◌-◌, ◌<◌, ◌^◌, ◌≡◌, IfOk, IfSome, OnErr, OnOk, Some, [], length, slice_get};
+ghost use Rattle.std.specs.Prelude.{◌+◌, ◌-◌, ◌<◌, ◌≤◌, ◌^◌, ◌≡◌, IfOk, IfSome, OnErr, OnOk, Some, [], length, slice_get};
 ghost use Rattle.surf_rules.specs.Names.{with_text};
 
 use std::alloc::Global;
@@ -7,7 +7,7 @@ use std::marker::Model;
 use surf_base::NoMemory;
 use surf_rules::Names;
 
-const SLOTS: usize = 64;
+const SLOTS: usize = 1024;
 
 /// Distinct texts, numbered in the order of their arrival. One that came lately is found without a
 /// search.
@@ -25,26 +25,47 @@ impl Model for Interner {
     ghost view = { λ i. i.names };
 }
 
-// Where the number of a text is kept.
+// Four bytes as one number.
+#[inline(always)]
+fn word(text: &[u8], at: usize) -> u64
+    requires { at + 4 ≤ length text.now }
+{
+    u64::from(u32::from_le_bytes([text[at], text[at + 1], text[at + 2], text[at + 3]]))
+}
+
+// Where the number of a text is kept: by its first and its last bytes, of which texts of up to
+// eight bytes have no others.
 #[inline(always)]
 fn slot_of(text: &[u8]) -> usize
-    ensures { result < 64 }
+    ensures { result < 1024 }
 {
-    if text.is_empty() {
-        return 0;
+    let count = text.len();
+    if count == 1 {
+        return usize::from(text[0]);
     }
-    let first = usize::from(text[0]);
-    let last = usize::from(text[text.len() - 1]);
-    (first + 5 * last) % SLOTS
+    let ends = if count >= 8 {
+        let front = word(text, 0) << 32 | word(text, 4);
+        front.wrapping_mul(31) ^ (word(text, count - 8) << 32 | word(text, count - 4))
+    } else if count >= 4 {
+        word(text, 0) << 32 | word(text, count - 4)
+    } else if count > 0 {
+        let first = u64::from(text[0]);
+        let middle = u64::from(text[count / 2]);
+        let last = u64::from(text[count - 1]);
+        first << 16 | middle << 8 | last
+    } else {
+        0
+    };
+    (ends.wrapping_mul(0x9e37_79b9_7f4a_7c15) >> 40) as usize % SLOTS
 }
 
 impl Interner {
-    /// No texts. Takes no memory.
-    pub fn new(alloc: Global) -> Interner
+    /// No texts. Those to come stand in `source`. Takes no memory.
+    pub fn new(alloc: Global, source: &[u8]) -> Interner
         ensures { result ≡ [] }
     {
         Interner {
-            names: Names::new(alloc),
+            names: Names::keyed(alloc, source),
             recent: [0; SLOTS],
         }
     }

@@ -25,7 +25,7 @@ fn read_lines(alloc: Global, text: &[u8]) -> Result<Reading, ManifestError>
         (λ r. after_lines at_start (map line_of (lines_of text.now)) ≡ reached_by r) }
     ensures refused { IfErr result (λ f. Refuses (manifest_of text.now) f) }
 {
-    let mut reading = Reading::new(alloc);
+    let mut reading = Reading::new(alloc, text);
     let mut lines = Lines::new(text, 0);
     while let Some(line) = lines.next() {
         reading.read_line(alloc, line)?;

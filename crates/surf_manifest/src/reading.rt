@@ -30,7 +30,8 @@ pub struct Reading {
 }
 
 impl Reading {
-    pub fn new(alloc: Global) -> Reading
+    /// The start of a text.
+    pub fn new(alloc: Global, source: &[u8]) -> Reading
         ensures draft { IsDraft result.draft }
         ensures start { reached_by result ≡ at_start }
     {
@@ -41,7 +42,7 @@ impl Reading {
             has_rules: false,
             has_state: false,
             has_colours: false,
-            draft: Draft::new(alloc),
+            draft: Draft::new(alloc, source),
         }
     }
 
