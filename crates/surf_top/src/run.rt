@@ -1,6 +1,7 @@
 // The command `run`.
-ghost use Rattle.std.specs.Prelude.{◌≡◌, ◌≤◌, ◌<◌, IfOk, IfErr, length};
+ghost use Rattle.std.specs.Prelude.{◌≡◌, ◌≤◌, ◌<◌, ℕ, List, Ok, IfOk, IfErr, length};
 ghost use Rattle.surf_base.specs.Emits.{Emits, outlet};
+ghost use Rattle.surf_manifest.specs.Grammar.{manifest_of};
 ghost use Rattle.surf_pick.specs.Draws.{seeded, words_of};
 ghost use Rattle.surf_rules.specs.Names.{text_of};
 ghost use Rattle.surf_sim.specs.Totals.{most_total};
@@ -17,8 +18,8 @@ use crate::print::print_end;
 use crate::status::{ended, refused};
 use std::alloc::Global;
 use surf_base::{NoMemory, Outbox, Sink, WriteFault};
-use surf_lattice::Lattice;
-use surf_manifest::read_manifest;
+use surf_lattice::{Grid, Lattice};
+use surf_manifest::{Manifest, read_manifest};
 use surf_pick::{Draw, Picker, TreePicker, WidePicker};
 use surf_rules::Names;
 use surf_sim::{Sim, most_total};
@@ -97,6 +98,30 @@ fn print_world<L: Lattice + Drop, K: Sink>(
     }
 }
 
+// Runs a manifest at the type of its grid.
+fn run_on<L: Lattice + Drop, K: Sink>(
+    alloc: Global,
+    manifest: Manifest,
+    grid: L,
+    seed: u64,
+    count: u64,
+    out: &mut K,
+) -> Status
+    requires { L.grid grid ≡ manifest.text.system.surface.grid }
+    ensures ends { (input : List ℕ) → manifest_of input ≡ Ok manifest.text
+        → EndsJob (Run seed count) input (writes K.written K.faults out.old out.new) result }
+    ensures quiet { IsQuiet result → out.new ≡ out.old }
+{
+    let (world, names) = match manifest.into_world_on(alloc, grid) {
+        Ok(pair) => pair,
+        Err(NoMemory) => return Status::NoMemory,
+    };
+    match print_world(alloc, world, &names, seed, count, out) {
+        Ok(written) => ended(written),
+        Err(NoMemory) => Status::NoMemory,
+    }
+}
+
 /// Runs the manifest that a text spells, and prints the run. The text is given up before the
 /// world is built.
 pub fn run<K: Sink>(alloc: Global, input: Vec<u8>, seed: u64, count: u64, out: &mut K) -> Status
@@ -110,12 +135,10 @@ pub fn run<K: Sink>(alloc: Global, input: Vec<u8>, seed: u64, count: u64, out: &
         Err(fault) => return refused(fault),
     };
     drop(input);
-    let (world, names) = match manifest.into_world(alloc) {
-        Ok(pair) => pair,
-        Err(NoMemory) => return Status::NoMemory,
-    };
-    match print_world(alloc, world, &names, seed, count, out) {
-        Ok(written) => ended(written),
-        Err(NoMemory) => Status::NoMemory,
+    match manifest.grid() {
+        Grid::Square(grid) => run_on(alloc, manifest, grid, seed, count, out),
+        Grid::Hex(grid) => run_on(alloc, manifest, grid, seed, count, out),
+        Grid::TorusSquare(grid) => run_on(alloc, manifest, grid, seed, count, out),
+        Grid::TorusHex(grid) => run_on(alloc, manifest, grid, seed, count, out),
     }
 }

@@ -1,29 +1,15 @@
 use Rattle.std.proofs.Common.{ap, sym, ◌∙◌}
 use Rattle.surf_manifest.specs.Grammar.{manifest_of}
-use Rattle.surf_rules.specs.Names.{text_of}
-use Rattle.surf_pick.specs.Draws.{seeded, words_of}
-use Rattle.surf_top.specs.Jobs.{Run}
-use Rattle.surf_top.specs.Prints.{placed_text}
-use Rattle.surf_top.proofs.Ends.{text_ends, loud, output_is, shown}
 use Rattle.surf_top.proofs.run.run.Goals as goal
 
-pub returns-in-Ok-print_world-clause-ends : goal.returns-in-Ok-print_world-clause-ends
-returns-in-Ok-print_world-clause-ends g c =
-    let input = c.args.input.items in
-    let m = c.in-Ok.manifest.text in
-    let w = c.in-Ok-into_world.pair.0 in
-    let texts = c.in-Ok-into_world.pair.1 in
-    let read = ap manifest_of (sym c.deref.ensures.value) ∙ c.in-Ok.ensures.ok in
-    let numbered = c.in-Ok-into_world.ensures.numbered in
-    text_ends (Run c.args.seed c.args.count) input _ (placed_text (text_of texts) w (words_of (seeded c.args.seed)) c.args.count) c.in-Ok-print_world.written _ c.ended.ensures
-    (output_is input m c.args.seed c.args.count w texts read numbered)
-    (shown input m c.args.seed c.args.count w texts read numbered) c.in-Ok-print_world.ensures.printed
+pub returns-in-Square-clause-ends : goal.returns-in-Square-clause-ends
+returns-in-Square-clause-ends g c = c.run_on.ensures.ends c.args.input.items (ap manifest_of (sym c.deref.ensures.value) ∙ c.in-Ok.ensures.ok)
 
-pub returns-in-Ok-print_world-clause-quiet : goal.returns-in-Ok-print_world-clause-quiet
-returns-in-Ok-print_world-clause-quiet g c = λ quiet. absurd (loud c.in-Ok-print_world.written _ c.ended.ensures quiet)
+pub returns-in-Hex-clause-ends : goal.returns-in-Hex-clause-ends
+returns-in-Hex-clause-ends g c = c.run_on.ensures.ends c.args.input.items (ap manifest_of (sym c.deref.ensures.value) ∙ c.in-Ok.ensures.ok)
+
+pub returns-in-TorusSquare-clause-ends : goal.returns-in-TorusSquare-clause-ends
+returns-in-TorusSquare-clause-ends g c = c.run_on.ensures.ends c.args.input.items (ap manifest_of (sym c.deref.ensures.value) ∙ c.in-Ok.ensures.ok)
 
 pub returns-clause-ends : goal.returns-clause-ends
-returns-clause-ends g c = ap (λ out. g.K.Sink.faults out) c.in-Err-print_world.ensures.quiet
-
-pub returns-clause-quiet : goal.returns-clause-quiet
-returns-clause-quiet g c = λ quiet. c.in-Err-print_world.ensures.quiet
+returns-clause-ends g c = c.run_on.ensures.ends c.args.input.items (ap manifest_of (sym c.deref.ensures.value) ∙ c.in-Ok.ensures.ok)
