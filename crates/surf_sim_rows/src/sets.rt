@@ -1,13 +1,14 @@
 // Which weights an event sets again, and how often.
 ghost use Rattle.std.specs.Prelude.{◌^◌};
 
-use crate::sims::rules;
+use crate::sims::{rule, rules};
 use std::alloc::Global;
 use std::marker::Model;
 use std::test::Fail;
 use surf_base::NoMemory;
 use surf_lattice::{Hex, Lattice, Square, Torus};
 use surf_pick::{Draw, Picker, PlainPicker};
+use surf_rules::RuleBook;
 use surf_sim::{Sim, most_total};
 use surf_world::World;
 
@@ -55,6 +56,12 @@ impl Picker for Counted {
     }
 }
 
+// The rules, and a pair that begins with the name of all other sites and never happens.
+fn busy_rules(alloc: Global) -> Result<RuleBook, Fail> {
+    let rules = vec![in alloc; rule(3, 7, Some(5)), rule(2, 9, None), rule(1, 0, Some(4))]?;
+    Ok(RuleBook::new(alloc, rules)?)
+}
+
 // How often the first event of a world sets each weight.
 fn sets_of_a_step<L: Lattice + Drop>(alloc: Global, world: World<L>) -> Result<Vec<u64>, Fail> {
     // which tells that it is below the picker's bound
@@ -70,12 +77,12 @@ fn sets_each_weight_once(rt: HostRuntime) -> Result<(), Fail> {
     let pair = [0, 0, 0, 0, 0, 7, 5, 0, 0, 0, 0, 0];
 
     let start = Vec::from_array(alloc, pair)?;
-    let world = World::new(alloc, Square::new(4, 3), rules(alloc)?, start)?;
+    let world = World::new(alloc, Square::new(4, 3), busy_rules(alloc)?, start)?;
     let eight = [0, 1, 1, 0, 1, 1, 1, 1, 0, 1, 1, 0];
     assert_eq!(rt; sets_of_a_step(alloc, world)?.as_slice(), eight.as_slice());
 
     let start = Vec::from_array(alloc, pair)?;
-    let world = World::new(alloc, Hex::new(4, 3), rules(alloc)?, start)?;
+    let world = World::new(alloc, Hex::new(4, 3), busy_rules(alloc)?, start)?;
     let ten = [1, 1, 1, 0, 1, 1, 1, 1, 0, 1, 1, 1];
     assert_eq!(rt; sets_of_a_step(alloc, world)?.as_slice(), ten.as_slice());
     Ok(())
@@ -86,7 +93,7 @@ fn sets_a_site_beside_both_once(rt: HostRuntime) -> Result<(), Fail> {
     let alloc = rt.alloc();
     let start = vec![in alloc; 0, 0, 0, 0, 7, 5, 0, 0, 0]?;
     let torus = Torus::new(Square::new(3, 3));
-    let world = World::new(alloc, torus, rules(alloc)?, start)?;
+    let world = World::new(alloc, torus, busy_rules(alloc)?, start)?;
     let seven = [0, 1, 1, 1, 1, 1, 0, 1, 1];
     assert_eq!(rt; sets_of_a_step(alloc, world)?.as_slice(), seven.as_slice());
     Ok(())
@@ -96,8 +103,18 @@ fn sets_a_site_beside_both_once(rt: HostRuntime) -> Result<(), Fail> {
 fn sets_the_weights_around_one_site(rt: HostRuntime) -> Result<(), Fail> {
     let alloc = rt.alloc();
     let start = vec![in alloc; 0, 0, 0, 0, 0, 9]?;
-    let world = World::new(alloc, Square::new(3, 2), rules(alloc)?, start)?;
+    let world = World::new(alloc, Square::new(3, 2), busy_rules(alloc)?, start)?;
     let three = [0, 0, 1, 0, 1, 1];
     assert_eq!(rt; sets_of_a_step(alloc, world)?.as_slice(), three.as_slice());
+    Ok(())
+}
+
+#[test]
+fn passes_over_names_that_begin_no_pair(rt: HostRuntime) -> Result<(), Fail> {
+    let alloc = rt.alloc();
+    let start = vec![in alloc; 0, 0, 0, 0, 0, 7, 5, 0, 0, 0, 0, 0]?;
+    let world = World::new(alloc, Square::new(4, 3), rules(alloc)?, start)?;
+    let two = [0, 0, 0, 0, 0, 1, 1, 0, 0, 0, 0, 0];
+    assert_eq!(rt; sets_of_a_step(alloc, world)?.as_slice(), two.as_slice());
     Ok(())
 }

@@ -9,7 +9,8 @@ use surf_rules::{Rule, RuleBook};
 use surf_sim::{Sim, most_total, simulation_laws};
 use surf_world::{Event, World};
 
-fn rule(rate: u64, left: u32, right: Option<u32>) -> Rule
+/// A rule of this left side that leaves 8, and 9 at a second site.
+pub fn rule(rate: u64, left: u32, right: Option<u32>) -> Rule
     requires { rate ≤ 1000000000000 }
     ensures { result.rate ≤ 1000000000000 }
 {
