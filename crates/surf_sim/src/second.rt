@@ -1,5 +1,5 @@
 // The weights around an event's second site.
-ghost use Rattle.std.specs.Prelude.{◌≡◌, ◌≤◌, ◌+◌, ◌∷◌, [], IfSome, filter, flat_map, length, slice_set};
+ghost use Rattle.std.specs.Prelude.{◌≡◌, ◌≤◌, ◌<◌, ◌+◌, ◌∷◌, [], IfSome, filter, flat_map, length, slice_set};
 ghost use Rattle.std.specs.Option.{option_to_list};
 ghost use Rattle.surf_lattice.specs.Grids.{IsInside, place};
 ghost use Rattle.surf_world.specs.Picks.{weight_of, around, refreshed};
