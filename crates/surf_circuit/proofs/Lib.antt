@@ -6,3 +6,5 @@ pub mod SurfaceLemmas
 pub mod Setting
 pub mod Drawable
 pub mod OneSurface
+pub mod PrintedLemmas
+pub mod Answered

@@ -3,6 +3,8 @@ use Rattle.std.proofs.Common.{ℕ, zero, suc, ◌≡◌, ◌<◌, Bool, true, fa
 use Rattle.std.specs.Prelude.{slice_index_or}
 use Rattle.std.specs.List.{list_all}
 use Rattle.std.specs.Option.{option_and_then}
+use Rattle.std.proofs.lemmas.Bool.{false≢true}
+use Rattle.std.proofs.lemmas.List.{length-map}
 use Rattle.std.proofs.lemmas.Option.{slice_get_within}
 use Rattle.surf_lattice.specs.Grids.{Grid}
 use Rattle.surf_rules.specs.Names.{text_of}
@@ -13,16 +15,18 @@ use Rattle.surf_tiles.specs.declared.reaction.Reaction.{Reaction}
 use Rattle.surf_tiles.specs.declared.state.Port.TheVariants.{AtA, AtB, AtH, AtV}
 use Rattle.surf_tiles.specs.declared.state.State.{State}
 use Rattle.surf_tiles.specs.declared.state.State.TheVariants.{Dot, Unset, Bit, BlankWire, Held, BlankP, BlankQ, OneGate, TwoGate, WaitsA, WaitsB, Crossing}
-use Rattle.surf_tiles.specs.Kinds.{name_of}
+use Rattle.surf_tiles.specs.Kinds.{blank, name_of}
 use Rattle.surf_tiles.specs.Reactions.{giver, reader, outcome, reactions}
 use Rattle.surf_tiles.specs.Rules.{IsGrown, SayAll}
 use Rattle.surf_tiles.specs.States.{spell}
 use Rattle.surf_tiles.proofs.Growing.{grown_then}
 use Rattle.surf_settle.specs.Law.{Plan, grid_of}
+use Rattle.surf_settle.specs.Plans.{IsLayout}
 use Rattle.surf_settle.specs.Settling.{circuit_rules}
 use Rattle.surf_settle.proofs.Said.{named}
 use Rattle.surf_manifest.specs.Drafts.{NamesBelow, RulesBelow, named_rule}
 use Rattle.surf_manifest.specs.Item.{is_name}
+use Rattle.surf_manifest.specs.WellFormed.{IsWellFormed}
 use Rattle.surf_settle.specs.Indices.{kind_index}
 use Rattle.surf_circuit.specs.Numbering.{NumbersAll}
 use Rattle.surf_circuit.specs.Surfaces.{layout_system, plain_manifest}
@@ -129,11 +133,34 @@ start_below texts numbers [] h i d lt = absurd (omega arith)
 start_below texts numbers (k ∷ ks) h zero d lt = slice_get_within texts (number_in numbers k) (name_of k) (h k)
 start_below texts numbers (k ∷ ks) h (suc i) d lt = start_below texts numbers ks h i d (omega arith)
 
-start_named : (texts : List (List ℕ)) (numbers : List ℕ) (kinds : List Kind) → NumbersAll texts numbers → map (text_of texts) (map (λ k. slice_index_or numbers (kind_index k) 0) kinds) ≡ map name_of kinds
+pub start_named : (texts : List (List ℕ)) (numbers : List ℕ) (kinds : List Kind) → NumbersAll texts numbers → map (text_of texts) (map (λ k. slice_index_or numbers (kind_index k) 0) kinds) ≡ map name_of kinds
 start_named texts numbers [] h = refl
 start_named texts numbers (k ∷ ks) h =
     ap (λ v. v ∷ map (text_of texts) (map (λ k. slice_index_or numbers (kind_index k) 0) ks)) (ap (λ o. unwrap_or o []) (h k))
     ∙ ap (λ v. name_of k ∷ v) (start_named texts numbers ks h)
+
+-- the surface of a layout is well formed
+kind_names : (kinds : List Kind) → list_all is_name (map name_of kinds) ≡ true
+kind_names [] = refl
+kind_names (k ∷ ks) = both (is_name (name_of k)) (list_all is_name (map name_of ks)) (state_name (blank k)) (kind_names ks)
+
+pub formed : (L : Plan) → IsLayout L → IsWellFormed (plain_manifest (layout_system L))
+unfolding reactions
+formed L h =
+    let sites = length-map L.kinds name_of in
+    let count : length circuit_rules ≡ 122 = refl in
+    record {
+      options = refl;
+      few_rules = omega (arith, count);
+      rules = refl;
+      width = h.wide;
+      height = h.high;
+      sites = sites ∙ h.lawful.1.long;
+      few_sites = omega (arith, sites, h.small);
+      joined = λ e. absurd (false≢true e);
+      names = kind_names L.kinds;
+      colours = refl;
+    }
 
 abbrev system_of : Grid → List (systems.Rule (List ℕ)) → List (List ℕ) → systems.System (List ℕ)
 system_of g rules start = record { surface = record { grid = g; rules = rules }; start = start }

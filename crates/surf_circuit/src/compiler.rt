@@ -1,7 +1,7 @@
 // A circuit as a manifest and a legend.
 ghost use Rattle.std.specs.Prelude.{◌<◌, ◌≡◌, ◌≤◌, IfOk, List, Some, length, ℕ};
 ghost use Rattle.surf_circuit.specs.Circuits.{CircuitHolds};
-ghost use Rattle.surf_circuit.specs.Compiled.{IsDrawn, IsSurfaceOf};
+ghost use Rattle.surf_circuit.specs.Compiled.{IsDrawn, IsPrinted, IsSurfaceOf};
 ghost use Rattle.surf_circuit.specs.Surfaces.{AreWords, Decomposes, IsSpelled};
 ghost use Rattle.surf_manifest_print.specs.Legends.{IsLegend};
 ghost use Rattle.surf_logic.specs.Equations.{PartsOf, cost_of};
@@ -13,6 +13,7 @@ ghost use Rattle.surf_tiles.specs.Netlists.{nets_of};
 
 use crate::legend::legend_of;
 use crate::surface::manifest_of;
+use crate::text::print_layout;
 use std::alloc::Global;
 use surf_base::NoMemory;
 use surf_logic::Circuit;
@@ -45,6 +46,18 @@ fn draw(alloc: Global, netlist: Netlist) -> Result<Layout, NoMemory>
     }
 }
 
+// The layout of a circuit's netlist.
+fn layout_of(alloc: Global, circuit: &Circuit) -> Result<Layout, NoMemory>
+    requires { cost_of circuit.now.parts ≤ 1000 }
+    ensures drawn { IfOk result (IsDrawn (gates_of circuit.now.parts)) }
+    ensures values { IfOk result (λ l. Decomposes l.netlist circuit.now) }
+{
+    // the circuit tells that it is one, and so has an output
+    let _inputs = circuit.inputs();
+    let netlist = decompose(alloc, circuit)?;
+    draw(alloc, netlist)
+}
+
 // The surface of a layout of a circuit's netlist, and its legend.
 fn on_surface(
     alloc: Global,
@@ -64,6 +77,26 @@ fn on_surface(
     Ok((manifest, legend))
 }
 
+// The text of the surface of a layout of a circuit's netlist.
+fn printed(alloc: Global, circuit: &Circuit, layout: &Layout) -> Result<Vec<u8>, NoMemory>
+    requires drawn { IsDrawn (gates_of circuit.now.parts) layout.now }
+    requires values { Decomposes layout.now.netlist circuit.now }
+    ensures { IfOk result (λ v. IsPrinted circuit.now v.items) }
+{
+    let legend = legend_of(alloc, circuit, layout)?;
+    print_layout(alloc, layout, &legend)
+}
+
+/// The text of the surface of a circuit, with its legend: what `print_manifest` gives of what
+/// `compile` answers, with no list of the sites' numbers in memory.
+pub fn compile_text(alloc: Global, circuit: &Circuit) -> Result<Vec<u8>, NoMemory>
+    requires { cost_of circuit.now.parts ≤ 1000 }
+    ensures { IfOk result (λ v. IsPrinted circuit.now v.items) }
+{
+    let layout = layout_of(alloc, circuit)?;
+    printed(alloc, circuit, &layout)
+}
+
 /// The surface of a circuit as a manifest, and its legend.
 ///
 /// The cost of the circuit is at most 1,000. The surface has all rules of circuits, and is set to
@@ -76,9 +109,6 @@ pub fn compile(alloc: Global, circuit: &Circuit) -> Result<(Manifest, Legend), N
     ensures form { IfOk result (λ r. (B : PartsOf (List ℕ)) → IsSpelled B circuit.now → AreWords B
         → IsLegend (Some r.1)) }
 {
-    // the circuit tells that it is one, and so has an output
-    let _inputs = circuit.inputs();
-    let netlist = decompose(alloc, circuit)?;
-    let layout = draw(alloc, netlist)?;
+    let layout = layout_of(alloc, circuit)?;
     on_surface(alloc, circuit, &layout)
 }

@@ -13,7 +13,8 @@ mod laws;
 mod legend;
 mod numbering;
 mod surface;
+mod text;
 
-pub use compiler::compile;
+pub use compiler::{compile, compile_text};
 pub use inputs::{SetError, set_inputs};
 pub use laws::{circuits_are_set, layouts_compute, sets_keep_form, surface_is_one};

@@ -25,3 +25,5 @@ pub use legend::{Legend, Place};
 pub use legend_error::LegendError;
 pub use legend_reader::read_legend;
 pub use print::print_manifest;
+pub use printer::Printer;
+pub use shorts::{PIECE, Short, shorts_of};

@@ -114,8 +114,8 @@ impl Printer {
         }
     }
 
-    // Appends the line of a row.
-    fn put_row(
+    /// Appends the line of a row. What a piece holds doesn't matter.
+    pub fn put_row(
         &mut self,
         names: &Names,
         shorts: &[Short],
