@@ -1,17 +1,13 @@
 -- The text of a circuit's surface, and what the grammar reads in it.
-use Rattle.std.proofs.Common.{ℕ, ◌≡◌, true, List, [], ◌∷◌, Some, refl, subst}
-use Rattle.std.specs.List.{list_all}
+use Rattle.std.proofs.Common.{ℕ, List, Some, refl, subst}
 use Rattle.std.specs.Str.{bytes_eq}
-use Rattle.std.proofs.lemmas.Bool.{and_parts}
 use Rattle.surf_logic.specs.Equations.{Numbered}
 use Rattle.surf_logic.specs.Answers.{EvalOf}
 use Rattle.surf_logic.proofs.NamedTexts.{values}
 use Rattle.surf_blif.specs.Blifs.{IsRead, parts_of}
 use Rattle.surf_manifest.specs.Grammar.{ManifestText}
 use Rattle.surf_manifest.specs.WellFormed.{IsWellFormed}
-use Rattle.surf_manifest.proofs.WellFormed.{both}
-use Rattle.surf_manifest_print.specs.declared.legend.Place.{Place}
-use Rattle.surf_manifest_print.specs.Legends.{LegendText, HasWords, IsLegend, has_word, is_place}
+use Rattle.surf_manifest_print.specs.Legends.{LegendText, IsLegend}
 use Rattle.surf_manifest_print.specs.Prints.{print_of}
 use Rattle.surf_manifest_print.proofs.LegendBack.{reads_legend}
 use Rattle.surf_manifest_print.proofs.Whole.{reads_print}
@@ -21,16 +17,6 @@ use Rattle.surf_circuit.specs.Surfaces.{AreWords, IsSpelled}
 use Rattle.surf_top.specs.Compiled.{HoldsCircuit}
 use Rattle.surf_top.specs.Jobs.{Circuit}
 use Rattle.surf_top.specs.Outputs.{IsText}
-
-places_words : (ps : List Place) → list_all is_place ps ≡ true → list_all has_word ps ≡ true
-places_words [] all = refl
-places_words (p ∷ ps) all =
-    let h = and_parts (is_place p) (list_all is_place ps) all in
-    both (has_word p) (list_all has_word ps) (and_parts (has_word p) _ h.0).0 (places_words ps h.1)
-
--- the names of a legend that is read back are words
-pub legend_words : (l : LegendText) → IsLegend (Some l) → HasWords l
-legend_words l is = record { inputs = places_words l.inputs is.0; outputs = places_words l.outputs is.1 }
 
 module _ (input : List ℕ) (c : Numbered) (read : IsRead input c) where
   pub spelled : IsSpelled (parts_of input) c

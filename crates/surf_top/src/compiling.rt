@@ -10,8 +10,7 @@ use crate::status::{ended, refused_blif};
 use std::alloc::Global;
 use surf_base::{Sink, write_all};
 use surf_blif::read_blif;
-use surf_circuit::compile;
-use surf_manifest_print::print_manifest;
+use surf_circuit::compile_text;
 
 /// Writes the surface of the circuit that a text spells: its manifest, and a legend that names the
 /// inputs and outputs.
@@ -25,10 +24,7 @@ pub fn compile_circuit<K: Sink>(alloc: Global, input: Vec<u8>, out: &mut K) -> S
         Err(error) => return refused_blif(error),
     };
     drop(input);
-    let Ok((manifest, legend)) = compile(alloc, &circuit) else {
-        return Status::NoMemory;
-    };
-    let Ok(text) = print_manifest(alloc, &manifest, Some(&legend)) else {
+    let Ok(text) = compile_text(alloc, &circuit) else {
         return Status::NoMemory;
     };
     ended(write_all(out, &text))

@@ -1,37 +1,30 @@
 use Rattle.std.proofs.Common.{ℕ, ◌≡◌, ◌∙◌, List, Some, sym, subst}
 use Rattle.surf_blif.specs.Blifs.{IsRead, parts_of}
-use Rattle.surf_manifest.specs.Numbered.{NamedManifest}
-use Rattle.surf_manifest.specs.WellFormed.{IsWellFormed}
 use Rattle.surf_manifest_print.specs.Prints.{print_of}
+use Rattle.surf_circuit.specs.Compiled.{IsPrinted}
 use Rattle.surf_top.specs.Compiled.{HoldsCircuit}
 use Rattle.surf_top.specs.Jobs.{Circuit}
 use Rattle.surf_top.specs.Outputs.{IsText}
 use Rattle.surf_top.specs.Writes.{writes}
-use Rattle.surf_top.proofs.Surfaces.{legend_words, spelled, words, compiled_text, compiled_holds}
+use Rattle.surf_top.proofs.Surfaces.{spelled, words, compiled_text, compiled_holds}
 use Rattle.surf_top.proofs.Emitting.{text_written}
 use Rattle.surf_top.proofs.Ends.{text_ends}
 use Rattle.surf_top.proofs.compiling.compile_circuit.Goals as goal
-
-pub print_manifest-requires : goal.print_manifest-requires
-print_manifest-requires g c =
-    let input = c.args.input.items in
-    let circuit = c.in-Ok.circuit in
-    let read : IsRead input circuit = subst (λ (b : List ℕ). IsRead b circuit) c.deref.ensures.value c.in-Ok.ensures.ok in
-    legend_words c.in-Ok-compile.legend (c.in-Ok-compile.ensures.form (parts_of input) (spelled input circuit read) (words input circuit read))
 
 pub returns-clause-ends : goal.returns-clause-ends
 returns-clause-ends g c =
     let input = c.args.input.items in
     let circuit = c.in-Ok.circuit in
-    let m = c.in-Ok-compile.manifest.text in
-    let l = c.in-Ok-compile.legend in
+    let printed : IsPrinted circuit c.in-Ok-compile_text.text.items = c.in-Ok-compile_text.ensures in
+    let m = printed.manifest in
+    let l = printed.legend in
     let text = c.deref-2.result.now in
     let o = writes g.K.Sink.written g.K.Sink.faults c.args.out.now c.write_all.new.sink in
     let read : IsRead input circuit = subst (λ (b : List ℕ). IsRead b circuit) c.deref.ensures.value c.in-Ok.ensures.ok in
-    let is : print_of m (Some l) ≡ text = sym (c.deref-2.ensures.value ∙ c.in-Ok-print_manifest.ensures.text) in
+    let is : print_of m (Some l) ≡ text = sym (c.deref-2.ensures.value ∙ printed.is) in
     let holds : HoldsCircuit (parts_of input) (print_of m (Some l)) =
-    compiled_holds input circuit read m l (subst (λ (n : NamedManifest). IsWellFormed n.text) c.manifest.view_is c.manifest.invariant.well_formed) (c.in-Ok-compile.ensures.form (parts_of input) (spelled input circuit read) (words input circuit read)) (c.in-Ok-compile.ensures.holds (parts_of input) (spelled input circuit read)) in
+    compiled_holds input circuit read m l printed.formed (printed.form (parts_of input) (spelled input circuit read) (words input circuit read)) (printed.holds (parts_of input) (spelled input circuit read)) in
     text_ends Circuit input o text c.write_all.result _ c.ended.ensures
-    (subst (λ (t : List ℕ). IsText Circuit input t) is (compiled_text input circuit read m l c.in-Ok-compile.ensures.surface))
+    (subst (λ (t : List ℕ). IsText Circuit input t) is (compiled_text input circuit read m l printed.surface))
     (subst (λ (t : List ℕ). HoldsCircuit (parts_of input) t) is holds)
     (text_written o text c.write_all.result c.write_all.ensures.all c.write_all.ensures.front c.write_all.ensures.cause)
