@@ -56,14 +56,14 @@ on_ok (Ok x) f p = f p
 on_ok (Err e) f p = tt
 
 -- rows
-pub first_row : (w h k : ℕ) (f : ℕ → List ℕ) (ks : List ℕ) → k < h → rows_of w (h - k) (map f ks) ≡ map f (take w ks) ∷ rows_of w (h - (k + 1)) (map f (drop w ks))
+pub first_row : {A : Type 0} (w h k : ℕ) (f : A → List ℕ) (ks : List A) → k < h → rows_of w (h - k) (map f ks) ≡ map f (take w ks) ∷ rows_of w (h - (k + 1)) (map f (drop w ks))
 first_row w h k f ks lt =
     let e : h - k ≡ suc (h - (k + 1)) = omega arith in
     ap (λ n. rows_of w n (map f ks)) e
     ∙ (ap (λ v. v ∷ rows_of w (h - (k + 1)) (drop w (map f ks))) (take-map f w ks)
     ∙ ap (λ v. map f (take w ks) ∷ rows_of w (h - (k + 1)) v) (drop-map f w ks))
 
-pub rows_on : (w h k : ℕ) (f : ℕ → List ℕ) (ks row after : List ℕ) (old new whole : List ℕ) → k < h → row ≡ take w ks → after ≡ drop w ks → new ≡ old ++ (spaced (map f row) ++ 10 ∷ [])
+pub rows_on : {A : Type 0} (w h k : ℕ) (f : A → List ℕ) (ks row after : List A) (old new whole : List ℕ) → k < h → row ≡ take w ks → after ≡ drop w ks → new ≡ old ++ (spaced (map f row) ++ 10 ∷ [])
     → old ++ ended (map spaced (rows_of w (h - k) (map f ks))) ≡ whole → new ++ ended (map spaced (rows_of w (h - (k + 1)) (map f after))) ≡ whole
 rows_on w h k f ks row after old new whole lt front back is e =
     let here : rows_of w (h - k) (map f ks) ≡ map f row ∷ rows_of w (h - (k + 1)) (map f after) =
@@ -80,7 +80,7 @@ sites_on w h k a b lt is e =
 pub below_on : (n w : ℕ) (ks after : List ℕ) → after ≡ drop w ks → All (λ k. k < n) ks → All (λ k. k < n) after
 below_on n w ks after back h = subst (λ v. All (λ k. k < n) v) (sym back) (All-drop (λ k. k < n) w ks h)
 
-pub names_put : (f : ℕ → List ℕ) (x : ℕ) (ks row old a new : List ℕ) → row ≡ x ∷ ks → a ≡ old ++ f x → new ≡ a ++ after_blanks (map f ks) → new ≡ old ++ spaced (map f row)
+pub names_put : {A : Type 0} (f : A → List ℕ) (x : A) (ks row : List A) (old a new : List ℕ) → row ≡ x ∷ ks → a ≡ old ++ f x → new ≡ a ++ after_blanks (map f ks) → new ≡ old ++ spaced (map f row)
 names_put f x ks row old a new whole first others =
     let rest = after_blanks (map f ks) in
     others ∙ (ap (λ v. v ++ rest) first ∙ (append_assoc old (f x) rest

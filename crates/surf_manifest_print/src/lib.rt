@@ -26,4 +26,4 @@ pub use legend_error::LegendError;
 pub use legend_reader::read_legend;
 pub use print::print_manifest;
 pub use printer::Printer;
-pub use shorts::{PIECE, Short, shorts_of};
+pub use shorts::{PIECE, Short};

@@ -24,10 +24,10 @@ impl Printer {
         self.put_name(names, name)
     }
 
-    // Puts a blank and a short name behind the bytes that wait, and appends those where they are
-    // many.
+    /// Puts a blank and a short name behind the bytes that wait at the front of a piece, and appends
+    /// those where they are many. Answers how many wait then.
     #[inline(always)]
-    fn put_short(
+    pub fn put_short(
         &mut self,
         short: &Short,
         piece: &mut [u8; PIECE],
@@ -114,8 +114,8 @@ impl Printer {
         }
     }
 
-    /// Appends the line of a row. What a piece holds doesn't matter.
-    pub fn put_row(
+    // Appends the line of a row.
+    fn put_row(
         &mut self,
         names: &Names,
         shorts: &[Short],

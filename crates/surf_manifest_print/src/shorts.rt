@@ -28,8 +28,8 @@ impl Model for Short {
 }
 
 impl Short {
-    // A blank and a name, or nothing where the name is too long.
-    fn new(name: &[u8]) -> Short
+    /// A blank and a name, or nothing where the name is too long.
+    pub fn new(name: &[u8]) -> Short
         ensures { result ≡ short_text name.now }
     {
         let mut bytes = [b' '; 16];
