@@ -1,0 +1,4 @@
+pub mod Noted
+pub mod Followed
+pub mod Going
+pub mod Summed

@@ -1,0 +1,5 @@
+pub mod Showings
+pub mod Simulated
+pub mod Tallies
+pub mod Counting
+pub mod Summing
