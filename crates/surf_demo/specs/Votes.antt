@@ -19,7 +19,8 @@ abbrev pub rows_text : ℕ → ℕ → List ℕ
 rows_text n zero = []
 rows_text n (suc y) = rows_text n y ++ (cells_text y n ++ codes "$\n")
 
--- a cell is born where three or four of its four neighbours are live, and lives on where two are
+-- a cell is born where three or four of its four neighbours are live, and lives on where two or more
+-- are
 abbrev pub header_text : ℕ → List ℕ
 header_text n =
     codes "x = " ++ (decimal n ++ (codes ", y = " ++ (decimal n ++ codes ", rule = B34/S234V\n")))
