@@ -1,0 +1,9 @@
+pub mod Unfolding
+pub mod Working
+pub mod Spelling
+pub mod Searching
+pub mod Leaving
+pub mod Parting
+pub mod Framing
+pub mod Meaning
+pub mod Worked

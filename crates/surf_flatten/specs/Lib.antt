@@ -1,0 +1,9 @@
+pub mod Covers
+pub mod Placements
+pub mod Designs
+pub mod Substituted
+pub mod Reaching
+pub mod Faults
+pub mod Meanings
+pub mod Frames
+pub mod Laws
