@@ -17,7 +17,7 @@ reach_on models i j k a b = by i a.0 a.1
     by i [] w = subst (λ v. Reaches models v k) (sym w) b
     by i (l ∷ ls) w = let r = by l ls w.1 in (l ∷ r.0, (w.0, r.1))
 
-hasnt_nat : (ns : List ℕ) (n : ℕ) → (In ns n → ⊥) → has nat_eq ns n ≡ false
+pub hasnt_nat : (ns : List ℕ) (n : ℕ) → (In ns n → ⊥) → has nat_eq ns n ≡ false
 hasnt_nat ns n no_ = ⊎_elim (λ t. absurd (no_ (in_nat ns n t))) (λ f. f) (cases_Bool (has nat_eq ns n))
 
 -- each on the way reaches its last

@@ -6,4 +6,10 @@ pub mod Leaving
 pub mod Parting
 pub mod Framing
 pub mod Meaning
+pub mod Finding
+pub mod Walking
+pub mod Firsts
+pub mod Tabling
+pub mod Faulting
+pub mod Grouping
 pub mod Worked

@@ -120,13 +120,17 @@ spots_back n (m ∷ ms) s i = ⊎_elim
     (λ later. let r = spots_back (suc n) ms s later in (suc r.0, subst (λ v. In (spots_in v (items_at ms r.0)) s) (omega arith) r.1))
     (in_append (spots_in n m.items) (spots_from (suc n) ms) s i)
 
-pub none_is_free : (models : List Design) → IsFree models → IsNone (IsRecursive models) (spots models)
-none_is_free models free = none_all (IsRecursive models) (spots models) (λ s i r.
+-- the model of a line places the one that the line names
+pub spot_places : (models : List Design) (s : Spot) (j : ℕ) → In (spots models) s → place_of models s.placing.model ≡ Some j → Places models s.place j
+spot_places models s j i e =
     let b = spots_back 0 models s i in
     let t = spot_target models (0 + b.0) (items_at models b.0) s b.1 in
     let place : s.place ≡ b.0 = t.0 ∙ omega arith in
-    let at : In (targets models s.place) r.1.0 = subst (λ v. In (targets models v) r.1.0) (sym place) (t.1 r.1.0 r.1.1) in
-    free.no_way s.place r.1.0 r.0 (has_nat (targets models s.place) r.1.0 at) r.1.2)
+    has_nat (targets models s.place) j (subst (λ v. In (targets models v) j) (sym place) (t.1 j e))
+
+pub none_is_free : (models : List Design) → IsFree models → IsNone (IsRecursive models) (spots models)
+none_is_free models free =
+    none_all (IsRecursive models) (spots models) (λ s i r. free.no_way s.place r.1.0 r.0 (spot_places models s r.1.0 i r.1.1) r.1.2)
 
 -- ---- parts
 

@@ -7,3 +7,9 @@ pub mod Faults
 pub mod Meanings
 pub mod Frames
 pub mod Laws
+pub mod Refusals
+pub mod Tables
+pub mod Searches
+pub mod Checks
+pub mod Works
+pub mod Groups

@@ -4,8 +4,18 @@
 //! stands for, and `specs/Faults.antt` which faults models have.
 #![tactic(auto)]
 
+mod checks;
+mod error;
+mod groups;
 mod laws;
+mod library;
 mod models;
+mod places;
+mod recursion;
+mod search;
+mod texts;
+mod works;
 
+pub use error::FlattenError;
 pub use laws::{cost_laws, substitution_laws};
 pub use models::{Bind, Cover, Item, Model, Placing};

@@ -1,4 +1,6 @@
 // Models that place each other.
+ghost use Rattle.std.specs.Prelude.{◌≡◌};
+
 use surf_base::Text;
 use surf_logic::Row;
 
@@ -25,6 +27,22 @@ impl std::marker::Model for Placing {
     ghost view = { λ p. record { line = p.line; model = p.model; binds = p.binds.items } };
 }
 
+impl Placing {
+    /// The name of the model that the line places.
+    pub fn model(&self) -> &[u8]
+        ensures { result.now ≡ self.now.model }
+    {
+        self.model.bytes()
+    }
+
+    /// What the line binds.
+    pub fn binds(&self) -> &[Bind]
+        ensures { result.now ≡ self.now.binds }
+    {
+        &self.binds
+    }
+}
+
 /// A signal by others, the last of which it is.
 #[derive(Drop)]
 pub struct Cover {
@@ -43,6 +61,36 @@ impl std::marker::Model for Cover {
     ghost view = { λ c. cover_of c.signals.items c.rows.items c.polarity };
 
     ghost invariant = { λ c. 0 < length c.signals.items };
+}
+
+impl Cover {
+    /// The signal that the cover gives.
+    pub fn output(&self) -> &[u8]
+        ensures { result.now ≡ self.now.output }
+    {
+        self.signals[self.signals.len() - 1].bytes()
+    }
+
+    /// The signals that it reads.
+    pub fn inputs(&self) -> &[Text]
+        ensures { result.now ≡ self.now.inputs }
+    {
+        &self.signals[..self.signals.len() - 1]
+    }
+
+    /// Its rows.
+    pub fn rows(&self) -> &[Row]
+        ensures { result.now ≡ self.now.rows }
+    {
+        &self.rows
+    }
+
+    /// The signal's value where some row matches.
+    pub fn polarity(&self) -> bool
+        ensures { result ≡ self.now.polarity }
+    {
+        self.polarity
+    }
 }
 
 /// What a model is made of.
@@ -75,4 +123,27 @@ impl std::marker::Model for Model {
           outputs = m.outputs.items;
           items = m.items.items;
         } };
+}
+
+impl Model {
+    /// The inputs, which a line that places the model has to bind.
+    pub fn inputs(&self) -> &[Text]
+        ensures { result.now ≡ self.now.inputs }
+    {
+        &self.inputs
+    }
+
+    /// The outputs.
+    pub fn outputs(&self) -> &[Text]
+        ensures { result.now ≡ self.now.outputs }
+    {
+        &self.outputs
+    }
+
+    /// The items in order.
+    pub fn items(&self) -> &[Item]
+        ensures { result.now ≡ self.now.items }
+    {
+        &self.items
+    }
 }
