@@ -80,7 +80,7 @@ formal_is : (known ports bound above : List (List ℕ)) (bs : List Bind) → ((x
 formal_is known ports bound above [] k a = refl
 formal_is known ports bound above (b ∷ bs) k a =
     let h : formal_by known (with_text bound b.formal) bs ≡ bad_formal ports (b.formal ∷ above) bs =
-        formal_is known ports (with_text bound b.formal) (b.formal ∷ above) bs k (λ x. has_one bound b.formal x ∙ ap (λ c. bytes_eq x b.formal || c) (a x)) in
+    formal_is known ports (with_text bound b.formal) (b.formal ∷ above) bs k (λ x. has_one bound b.formal x ∙ ap (λ c. bytes_eq x b.formal || c) (a x)) in
     ap (λ c. if c && not (has bytes_eq bound b.formal) then formal_by known (with_text bound b.formal) bs else Some b.formal) (k b.formal)
     ∙ ap (λ c. if has bytes_eq ports b.formal && not c then formal_by known (with_text bound b.formal) bs else Some b.formal) (a b.formal)
     ∙ ap (λ v. if has bytes_eq ports b.formal && not (has bytes_eq above b.formal) then v else Some b.formal) h
@@ -310,7 +310,7 @@ module _ (models : List Design) (find : List ℕ → Option ℕ) (same : (t : Li
       let part = get_or groups s.place 0 in
       let together : part ≡ get_or groups j 0 = (components_tell models (λ k. get_or groups k 0) s.place j has_groups.tell p.0 (spot_places models s j i p.1.1)).0 p.1.2 in
       let found : back_at groups part s.placing (find s.placing.model) ≡ Some (Recursive s.placing.line s.placing.model) =
-          ap (back_at groups part s.placing) (same s.placing.model ∙ p.1.1) ∙ ap (λ b. if b then Some (Recursive s.placing.line s.placing.model) else None) (eq-eqb (get_or groups j 0) part (sym together)) in
+      ap (back_at groups part s.placing) (same s.placing.model ∙ p.1.1) ∙ ap (λ b. if b then Some (Recursive s.placing.line s.placing.model) else None) (eq-eqb (get_or groups j 0) part (sym together)) in
       let here = spot_here (back_fault find groups) groups (λ k q. refl) s (has_groups.reached s.place p.0) in
       let bad : Some (Recursive s.placing.line s.placing.model) ≡ None = sym (here ∙ found) ∙ e in
       never (Recursive s.placing.line s.placing.model) bad

@@ -138,7 +138,7 @@ module _ (models : List Design) (find : List ℕ → Option ℕ) (same : (t : Li
   sources_are ss done e l =
       let none : (i j : ℕ) → In (get_or ss j []) i → ⊥ = λ i j a. no_source (length models) j i [] refl (subst (λ v. In (get_or v j []) i) e a) in
       let from : (i j : ℕ) → has nat_eq (get_or (all_sources find models ss done) j []) i ≡ true → In done i × In (targets models i) j =
-          λ i j h. ⊎_elim (λ a. absurd (none i j a)) (λ r. r) (all_from ss done i j l (in_nat (get_or (all_sources find models ss done) j []) i h)) in
+      λ i j h. ⊎_elim (λ a. absurd (none i j a)) (λ r. r) (all_from ss done i j l (in_nat (get_or (all_sources find models ss done) j []) i h)) in
       record {
         from = λ i j h. has_nat (targets models i) j (from i j h).1;
         among = λ i j h. has_nat done i (from i j h).0;

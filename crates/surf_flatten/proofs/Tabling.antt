@@ -44,10 +44,10 @@ works_step models table done count p w works lt is long within settled work =
     let after : k + 1 ≡ length done - count = omega (arith, lt) in
     let here : length done - (count + 1) ≡ k = omega (arith, lt) in
     let split : drop (length done - (count + 1)) done ≡ p ∷ drop (length done - count) done =
-        ap (λ v. drop v done) here ∙ rest_at done k p inside (is ∙ get_any done k 0 p inside) ∙ ap (λ v. p ∷ drop v done) after in
+    ap (λ v. drop v done) here ∙ rest_at done k p inside (is ∙ get_any done k 0 p inside) ∙ ap (λ v. p ∷ drop v done) after in
     let placed : ArePlacedIn models (items_at models p) (drop (length done - count) done) =
-        subst (λ v. ArePlacedIn models (items_at models v) (drop (length done - count) done)) (sym is)
-        (subst (λ v. ArePlacedIn models (items_at models (get_or done k 0)) (drop v done)) after (settled_at models done k settled inside)) in
+    subst (λ v. ArePlacedIn models (items_at models v) (drop (length done - count) done)) (sym is)
+    (subst (λ v. ArePlacedIn models (items_at models (get_or done k 0)) (drop v done)) after (settled_at models done k settled inside)) in
     let fits : p < length models = subst (λ v. v < length models) (sym is) (All-get_or (λ v. v < length models) done k 0 inside within) in
     subst (HasWorks models (set table p w)) (sym split)
     (subst (λ v. HasWorks models (set table p v) (p ∷ drop (length done - count) done)) (sym work)

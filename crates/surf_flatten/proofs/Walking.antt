@@ -132,12 +132,12 @@ bump models progress u below left it w more is known =
     let not_left : (i : ℕ) → In left i → i ≢ u = λ i j e. let o : p ≡ suc (suc (length items)) = subst (λ v. get_or progress v 0 ≡ suc (suc (length (items_at models v)))) e (w.off i j) in omega (arith, o) in
     let next : p ≡ (p - 1) + 1 = omega arith in
     let one : take p items ≡ take (p - 1) items ++ it ∷ [] =
-        ap (λ (k : ℕ). take k items) next ∙ take_more items (p - 1) it (omega arith) ∙ ap (λ v. take (p - 1) items ++ v ∷ []) (sym is) in
+    ap (λ (k : ℕ). take k items) next ∙ take_more items (p - 1) it (omega arith) ∙ ap (λ v. take (p - 1) items ++ v ∷ []) (sym is) in
     let all : (j : ℕ) → In (targets_in models (take p items)) j → Met left (u ∷ below) j = λ j a. ⊎_elim
-        (λ b. w.looked u j (inl refl) b)
-        (λ b. w.seen j (known j (in_onto (target_by (place_of models) it) j b)))
-        (in_append (targets_in models (take (p - 1) items)) (onto (target_by (place_of models) it) []) j
-        (subst (λ v. In v j) (ap (targets_in models) one ∙ targets_put models (take (p - 1) items) it) a)) in
+    (λ b. w.looked u j (inl refl) b)
+    (λ b. w.seen j (known j (in_onto (target_by (place_of models) it) j b)))
+    (in_append (targets_in models (take (p - 1) items)) (onto (target_by (place_of models) it) []) j
+    (subst (λ v. In v j) (ap (targets_in models) one ∙ targets_put models (take (p - 1) items) it) a)) in
     record {
       same = length-set progress u (p + 1) ∙ w.same;
       inside = w.inside;

@@ -31,17 +31,21 @@ twice_at line above (Some n) = if has bytes_eq above n then Some (ModelTwice lin
 -- the first model whose name an earlier one has
 abbrev pub model_twice : List (List ℕ) → List Design → Option ModelFault
 model_twice above [] = None
-model_twice above (m ∷ ms) = or_else (twice_at m.line above m.name) (model_twice (named m.name above) ms)
+model_twice above (m ∷ ms) =
+    or_else (twice_at m.line above m.name) (model_twice (named m.name above) ms)
 
 -- the first formal that isn't among the known or stands earlier on the line
 abbrev pub bad_formal : List (List ℕ) → List (List ℕ) → List Bind → Option (List ℕ)
 bad_formal known above [] = None
-bad_formal known above (b ∷ bs) = if has bytes_eq known b.formal && not (has bytes_eq above b.formal) then bad_formal known (b.formal ∷ above) bs else Some b.formal
+bad_formal known above (b ∷ bs) =
+    if has bytes_eq known b.formal && not (has bytes_eq above b.formal)
+    then bad_formal known (b.formal ∷ above) bs else Some b.formal
 
 abbrev pub binding_fault : Placement → Design → Option ModelFault
 binding_fault p m = or_else
     (option_map (BadFormal p.line) (bad_formal (m.inputs ++ m.outputs) [] p.binds))
-    (option_map (Unconnected p.line) (first_missing bytes_eq (map (λ b. b.formal) p.binds) m.inputs))
+    (option_map (Unconnected p.line)
+    (first_missing bytes_eq (map (λ b. b.formal) p.binds) m.inputs))
 
 abbrev pub fault_by : Placement → Option Design → Option ModelFault
 fault_by p None = Some (UnknownModel p.line p.model)
@@ -83,10 +87,12 @@ IsMisplaced models s = IsReached models s.place × (placing_fault models s.placi
 
 -- the model that the placing names reaches the one in which the placing stands
 abbrev pub IsRecursive : List Design → Spot → Type 0
-IsRecursive models s = IsReached models s.place × ((j : ℕ) × (place_of models s.placing.model ≡ Some j) × Reaches models j s.place)
+IsRecursive models s = IsReached models s.place × ((j : ℕ)
+    × (place_of models s.placing.model ≡ Some j) × Reaches models j s.place)
 
 abbrev pub HasPlacingFault : List Design → ModelFault → Type 0
-HasPlacingFault models f = (model_twice [] models ≡ None) × ((s : Spot) × IsFirst (IsMisplaced models) (spots models) s × (placing_fault models s.placing ≡ Some f))
+HasPlacingFault models f = (model_twice [] models ≡ None) × ((s : Spot)
+    × IsFirst (IsMisplaced models) (spots models) s × (placing_fault models s.placing ≡ Some f))
 
 -- a text of models without a fault before its cost
 pub record AreSound (models : List Design) : Type 0 where
@@ -102,6 +108,8 @@ HasModelFault main ms (BadFormal line n) = HasPlacingFault (main ∷ ms) (BadFor
 HasModelFault main ms (Unconnected line n) = HasPlacingFault (main ∷ ms) (Unconnected line n)
 HasModelFault main ms (Recursive line n) =
     (model_twice [] (main ∷ ms) ≡ None) × IsNone (IsMisplaced (main ∷ ms)) (spots (main ∷ ms))
-    × ((s : Spot) × IsFirst (IsRecursive (main ∷ ms)) (spots (main ∷ ms)) s × (s.placing.line ≡ line) × (s.placing.model ≡ n))
+    × ((s : Spot) × IsFirst (IsRecursive (main ∷ ms)) (spots (main ∷ ms)) s
+    × (s.placing.line ≡ line) × (s.placing.model ≡ n))
 HasModelFault main ms (TooLarge n) =
-    AreSound (main ∷ ms) × ((t : Tree) × Unfolds (main ∷ ms) main.items t × (capped (text_cost main t) ≡ n) × (1000 < n))
+    AreSound (main ∷ ms) × ((t : Tree) × Unfolds (main ∷ ms) main.items t
+    × (capped (text_cost main t) ≡ n) × (1000 < n))

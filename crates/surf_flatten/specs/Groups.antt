@@ -25,7 +25,8 @@ all_sources find models sources (p ∷ ps) =
     all_sources find models (sources_with find sources p (items_at models p)) ps
 
 -- beside each model stand those of these that place it
-pub record AreSourcesOf (models : List Design) (done : List ℕ) (sources : List (List ℕ)) : Type 0 where
+pub record AreSourcesOf (models : List Design) (done : List ℕ)
+    (sources : List (List ℕ)) : Type 0 where
   pub from : (i j : ℕ) → has nat_eq (slice_index_or sources j []) i ≡ true →
       has nat_eq (targets models i) j ≡ true
   pub among : (i j : ℕ) → has nat_eq (slice_index_or sources j []) i ≡ true →
@@ -40,7 +41,8 @@ LeadsBack sources n (k ∷ ks) root =
     (has nat_eq (slice_index_or sources k []) n ≡ true) × LeadsBack sources k ks root
 
 -- a search back from the root has found these, and flags them beside the assigned ones
-pub record IsFoundBack (sources : List (List ℕ)) (root : ℕ) (assigned found : List ℕ) (taken : List Bool) : Type 0 where
+pub record IsFoundBack (sources : List (List ℕ)) (root : ℕ) (assigned found : List ℕ)
+    (taken : List Bool) : Type 0 where
   pub root_in : has nat_eq found root ≡ true
   pub free : (i : ℕ) → has nat_eq found i ≡ true → has nat_eq assigned i ≡ false
   pub inside : (i : ℕ) → has nat_eq found i ≡ true → i < length sources

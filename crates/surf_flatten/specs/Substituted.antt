@@ -6,7 +6,8 @@ use Rattle.surf_logic.specs.Renamed.{equation_by, parts_by}
 use Rattle.surf_flatten.specs.declared.models.Bind.{Bind}
 use Rattle.surf_flatten.specs.Designs.{Design, Tree, Done, Gives, Holds}
 
--- a signal by the numbers of the placings on the way from main, and its name in its model. Main's own have no numbers
+-- a signal by the numbers of the placings on the way from main, and its name in its model.
+-- Main's own have no numbers
 pub record Signal : Type 0 where
   pub path : List ℕ
   pub name : List ℕ
@@ -23,7 +24,8 @@ abbrev pub seen_or : (List ℕ → Signal) → Option (List ℕ) → Signal → 
 seen_or see None mine = mine
 seen_or see (Some a) mine = see a
 
--- the signals of a placed model: a connected formal is its actual, as the placing model sees it, and each other is one of its own
+-- the signals of a placed model: a connected formal is its actual, as the placing model sees it,
+-- and each other is one of its own
 abbrev pub seen_inside : (List ℕ → Signal) → List ℕ → List Bind → List ℕ → Signal
 seen_inside see path binds s = seen_or see (actual_of binds s) (own path s)
 
@@ -32,11 +34,16 @@ abbrev pub equations_in : (List ℕ → Signal) → List ℕ → ℕ → Tree �
 equations_in see path k Done = []
 equations_in see path k (Gives q rest) = equation_by see q ∷ equations_in see path k rest
 equations_in see path k (Holds p inner rest) =
-    equations_in (seen_inside see (path ++ k ∷ []) p.binds) (path ++ k ∷ []) 1 inner ++ equations_in see path (suc k) rest
+    equations_in (seen_inside see (path ++ k ∷ []) p.binds)
+    (path ++ k ∷ []) 1 inner ++ equations_in see path (suc k) rest
 
 -- main's inputs and outputs, and the equations of its items
 abbrev pub signal_parts : Design → Tree → PartsOf Signal
-signal_parts main tree = record { inputs = map (own []) main.inputs; outputs = map (own []) main.outputs; equations = equations_in (own []) [] 1 tree }
+signal_parts main tree = record {
+  inputs = map (own []) main.inputs;
+  outputs = map (own []) main.outputs;
+  equations = equations_in (own []) [] 1 tree;
+}
 
 -- numbers joined by points
 abbrev pub way_text : List ℕ → List ℕ

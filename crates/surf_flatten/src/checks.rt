@@ -76,12 +76,7 @@ fn check_formals(
 }
 
 // All inputs are bound.
-fn check_inputs(
-    alloc: Global,
-    line: u64,
-    inputs: &Names,
-    bound: &Names,
-) -> Result<(), FlattenError>
+fn check_inputs(alloc: Global, line: u64, inputs: &Names, bound: &Names) -> Result<(), FlattenError>
     ensures { MatchResult result
         (λ _. first_missing bytes_eq bound.now inputs.now ≡ None)
         (Refuses (option_map (Unconnected line) (first_missing bytes_eq bound.now inputs.now))) }

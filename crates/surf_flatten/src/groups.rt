@@ -119,7 +119,8 @@ fn sources_of(
 fn gather(places: &[usize], flags: &mut [bool], list: &mut Vec<usize>) -> Result<(), NoMemory>
     requires { All (λ k. k < length flags.old) places.now }
     ensures flags { IfOk result (λ _. flags.new ≡ marked flags.old places.now) }
-    ensures list { IfOk result (λ _. list.new.items ≡ list.old.items ++ fresh flags.old places.now) }
+    ensures list { IfOk result
+        (λ _. list.new.items ≡ list.old.items ++ fresh flags.old places.now) }
     ensures length { length flags.new ≡ length flags.old }
 {
     for place in places {

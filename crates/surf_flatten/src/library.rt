@@ -29,7 +29,9 @@ fn add_name(
     if library.has(name) {
         return Err(refusal(alloc, Kind::ModelTwice, line, name));
     }
-    library.add(name, place).map_err(|_| FlattenError::NoMemory)?;
+    library
+        .add(name, place)
+        .map_err(|_| FlattenError::NoMemory)?;
     Ok(())
 }
 

@@ -28,7 +28,11 @@ fn unseen_target(library: &Places, item: &Item, progress: &[usize]) -> Option<us
         → 0 < slice_index progress.now j) }
 {
     let target = target_of(library, item)?;
-    if progress[target] == 0 { Some(target) } else { None }
+    if progress[target] == 0 {
+        Some(target)
+    } else {
+        None
+    }
 }
 
 // The models that main reaches. A search leaves each after all that it places, but for those that

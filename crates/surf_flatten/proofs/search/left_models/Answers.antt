@@ -136,7 +136,7 @@ loop-place-preserved c =
     let at : it ≡ get_or (items_at models u) (c.index-seen.result.now - 1) it = subst (λ v. it ≡ get_or v (c.index-seen.result.now - 1) it) items c.index-items-seen.is in
     let back : c.push-in-Some.new.self.items ≡ c.pop.new.self.items ++ u ∷ [] = search rules in
     let known : (j : ℕ) → target_by (place_of models) it ≡ Some j → 0 < get_or progress j 0 =
-        λ j e. subst (λ v. 0 < get_or v j 0) c.deref.ensures.value (search (rules, c.in_default-unseen_target.ensures.seen j (target_same models c.args.library.now it c.requires.library ∙ e))) in
+    λ j e. subst (λ v. 0 < get_or v j 0) c.deref.ensures.value (search (rules, c.in_default-unseen_target.ensures.seen j (target_same models c.args.library.now it c.requires.library ∙ e))) in
     step_bump models progress c.pop.new.self.items c.push-in-Some.new.self.items (reverse c.loop-place.left.items) u c.index-seen.result.now it w seen (omega (arith, fits, ap length items)) at known back
 
 pub returns : goal.returns

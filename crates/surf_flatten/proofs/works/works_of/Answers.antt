@@ -25,10 +25,10 @@ loop-count-preserved c =
     let inside : p < length models = All-get_or (λ k. k < length models) done (length done - 1 - count) 0 at c.requires.within in
     let items : c.items.result.now ≡ items_at models p = c.items.ensures ∙ items_is models p c.index-models-place.result inside c.index-models-place.is in
     let work : c.items_work.result ≡ work_by models table true (items_at models p) =
-        c.items_work.ensures
-        ∙ ap (λ v. capped (sum (map (work_in (place_in c.args.library.now) v true) c.items.result.now))) c.deref.ensures.value
-        ∙ ap (λ v. capped (sum (map (work_in (place_in c.args.library.now) table true) v))) items
-        ∙ works_same models c.args.library.now table true (items_at models p) c.requires.library in
+    c.items_work.ensures
+    ∙ ap (λ v. capped (sum (map (work_in (place_in c.args.library.now) v true) c.items.result.now))) c.deref.ensures.value
+    ∙ ap (λ v. capped (sum (map (work_in (place_in c.args.library.now) table true) v))) items
+    ∙ works_same models c.args.library.now table true (items_at models p) c.requires.library in
     record {
       works = works_step models table done count p c.items_work.result c.loop-count.invariant.works lt refl c.loop-count.invariant.same c.requires.within c.requires.settled work;
       same = length-set table p c.items_work.result ∙ c.loop-count.invariant.same;
