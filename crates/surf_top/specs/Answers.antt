@@ -2,17 +2,17 @@
 use Rattle.std.specs.Prelude.{ℕ, ◌≡◌, ◌<◌, ◌≤◌, ◌⊎◌, List, length, Option, Some, None, IfSome, IfOk}
 use Rattle.std.specs.Io.KnownBytes.{Appends, IsAtEnd}
 use Rattle.surf_base.specs.Causes.{Rose}
-use Rattle.surf_base.specs.Known.{AppendsFront}
 use Rattle.surf_manifest.specs.Grammar.{manifest_of}
-use Rattle.surf_top.specs.declared.status.Status.{Status}
-use Rattle.surf_top.specs.declared.status.Status.TheVariants.{Done, Refused, Usage, NotEnabled, ReadFault, WriteFault, NoMemory, TooLong}
+use Rattle.surf_status.specs.declared.status.Status.{Status}
+use Rattle.surf_status.specs.declared.status.Status.TheVariants.{Done, Refused, Usage, NotEnabled, ReadFault, WriteFault, NoMemory, TooLong}
 use Rattle.surf_top.specs.Jobs.{Job, Run, Circuit, Automaton}
-use Rattle.surf_top.specs.Outputs.{IsText, HasText, IsRefused, FindsBad, Shows}
+use Rattle.surf_top.specs.Outputs.{call_of}
 use Rattle.surf_blif.specs.Blifs.{parts_of}
-use Rattle.surf_top.specs.Automata.{HoldsColony}
-use Rattle.surf_top.specs.Compiled.{HoldsCircuit}
-use Rattle.surf_top.specs.Runs.{ShowsRun}
-use Rattle.surf_top.specs.Writes.{Writes}
+use Rattle.surf_command_automata.specs.Automata.{HoldsColony}
+use Rattle.surf_command_circuits.specs.Compiled.{HoldsCircuit}
+use Rattle.surf_command_runs.specs.Runs.{ShowsRun}
+use Rattle.surf_status.specs.Calls.{WroteWhole, WroteFront}
+use Rattle.surf_status.specs.Writes.{Writes}
 
 -- the most bytes that an input may have
 abbrev pub limit : ℕ
@@ -46,36 +46,23 @@ abbrev pub ReadWhole : Ends → (List ℕ → Type 0) → Type 0
 ReadWhole e P =
     IsAtEnd e.left_after × IfSome e.left_before (λ input. (length input ≤ limit) × P input)
 
--- the output of the job for the input was written, and nothing else
-pub record WroteWhole (job : Job) (input : List ℕ) (old new : Option (List ℕ)) : Type 0 where
-  pub text : List ℕ
-  pub is : IsText job input text
-  pub shows : Shows job input text
-  pub whole : Appends old new text
-
--- a front of the output was written
-pub record WroteFront (job : Job) (input : List ℕ) (old new : Option (List ℕ)) : Type 0 where
-  pub text : List ℕ
-  pub is : IsText job input text
-  pub front : AppendsFront old new text
-
 -- when each answer comes; of want of memory nothing is said but that no fault was
 abbrev pub HasCauses : Option Job → Ends → Status → Type 0
 HasCauses None e Usage = Unit {0}
 HasCauses (Some job) e Usage = ⊥
 HasCauses None e Done = ⊥
-HasCauses (Some job) e Done = ReadWhole e (λ input. WroteWhole job input e.out.old e.out.new)
+HasCauses (Some job) e Done = ReadWhole e (λ input. WroteWhole (call_of job input) e.out.old e.out.new)
 HasCauses None e (Refused r) = ⊥
-HasCauses (Some job) e (Refused r) = ReadWhole e (λ input. IsRefused job input r)
+HasCauses (Some job) e (Refused r) = ReadWhole e (λ input. (call_of job input).Refuses r)
 HasCauses None e (NotEnabled k) = ⊥
-HasCauses (Some job) e (NotEnabled k) = ReadWhole e (λ input. FindsBad job input k)
+HasCauses (Some job) e (NotEnabled k) = ReadWhole e (λ input. (call_of job input).Bad k)
 HasCauses None e ReadFault = ⊥
 HasCauses (Some job) e ReadFault = Rose e.reads_before e.reads_after
 HasCauses None e TooLong = ⊥
 HasCauses (Some job) e TooLong = IfSome e.left_before (λ input. limit < length input)
 HasCauses None e WriteFault = ⊥
 HasCauses (Some job) e WriteFault =
-    Rose e.out.before e.out.now × ReadWhole e (λ input. WroteFront job input e.out.old e.out.new)
+    Rose e.out.before e.out.now × ReadWhole e (λ input. WroteFront (call_of job input) e.out.old e.out.new)
 HasCauses None e NoMemory = ⊥
 HasCauses (Some job) e NoMemory = NoFaults e
 
@@ -85,7 +72,7 @@ abbrev pub IsComplete : Option Job → Ends → Status → Type 0
 IsComplete None e status = Unit {0}
 IsComplete (Some job) e status =
     (Rose e.reads_before e.reads_after → ⊥) → (Rose e.out.before e.out.now → ⊥)
-    → IfSome e.left_before (λ input. length input ≤ limit → HasText job input →
+    → IfSome e.left_before (λ input. length input ≤ limit → (call_of job input).Has →
     (status ≡ Done) ⊎ (status ≡ NoMemory))
 
 -- where the answer is Done, a text was written that shows this of the input
@@ -121,14 +108,3 @@ PrintsColony None e status = Unit {0}
 PrintsColony (Some (Automaton margin last)) e status =
     PrintsWhat e status (λ input text. HoldsColony margin last input text)
 PrintsColony (Some job) e status = Unit {0}
-
--- the answers that leave the output as it was
-abbrev pub IsQuiet : Status → Type 0
-IsQuiet Done = ⊥
-IsQuiet WriteFault = ⊥
-IsQuiet (Refused r) = Unit {0}
-IsQuiet Usage = Unit {0}
-IsQuiet (NotEnabled k) = Unit {0}
-IsQuiet ReadFault = Unit {0}
-IsQuiet NoMemory = Unit {0}
-IsQuiet TooLong = Unit {0}

@@ -1,7 +1,9 @@
 -- The commands that are carried out.
-use Rattle.std.specs.Prelude.{ℕ, ◌≤◌, Bool, ◌==◌, List, map, Option, Some, None, IfSome}
+use Rattle.std.specs.Prelude.{ℕ, Bool, List, Option, Some, None}
 use Rattle.surf_words.specs.Words.{Spoken, words_of}
 use Rattle.surf_words.specs.Words as words
+use Rattle.surf_command_circuits.specs.Bits.{bits_of}
+use Rattle.surf_command_automata.specs.Calls.{AreWithin}
 use Rattle.surf_top.specs.declared.job.Job as declared
 use Rattle.surf_top.specs.declared.job.Job.TheVariants as variants
 
@@ -18,10 +20,6 @@ pub data Job : Type 0 where
   Outputs : Job
   Observe : ℕ → Job
 
--- the bits that a word of 0 and 1 spells
-abbrev pub bits_of : List ℕ → List Bool
-bits_of word = map (λ b. b == 49) word
-
 -- a job of the program as the definitions see it
 abbrev pub meant : declared.Job → Job
 meant (variants.Run seed count) = Run seed count
@@ -37,7 +35,7 @@ meant (variants.Observe k) = Observe k
 
 -- the margin of an automaton and its last generation, if one is given, are within their limits
 abbrev pub IsWithin : Job → Type 0
-IsWithin (Automaton margin last) = (margin ≤ 1000) × IfSome last (λ n. (1 ≤ n) × (n ≤ 1000000))
+IsWithin (Automaton margin last) = AreWithin margin last
 IsWithin job = Unit {0}
 
 abbrev pub job_for : Option Spoken → Option Job

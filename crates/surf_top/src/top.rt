@@ -1,26 +1,22 @@
 // The program as one call.
 ghost use Rattle.std.specs.Prelude.{◌≡◌, ◌≤◌, length, map, string_bytes};
-ghost use Rattle.surf_top.specs.Answers.{HasCauses, IsComplete, IsQuiet, PrintsCircuit, PrintsColony, PrintsRun, ends};
-ghost use Rattle.surf_top.specs.Commands.{EndsJob};
-ghost use Rattle.surf_top.specs.Notes.{Notes, note_of};
+ghost use Rattle.surf_top.specs.Answers.{HasCauses, IsComplete, PrintsCircuit, PrintsColony, PrintsRun, ends};
+ghost use Rattle.surf_status.specs.Calls.{IsQuiet};
+ghost use Rattle.surf_status.specs.Calls.{EndsAs};
+ghost use Rattle.surf_status.specs.Notes.{Notes, note_of};
 ghost use Rattle.surf_top.specs.Jobs.{IsWithin, job_of, meant};
-ghost use Rattle.surf_top.specs.Writes.{writes};
+ghost use Rattle.surf_top.specs.Outputs.{call_of};
+ghost use Rattle.surf_status.specs.Writes.{writes};
 
-use crate::canonical::format;
-use crate::colonies::compile_source;
-use crate::compiling::compile_circuit;
-use crate::evaluating::evaluate;
+use crate::Job;
 use crate::job::read_job;
-use crate::observing::show_observed;
-use crate::outputs::show_finals;
-use crate::reasons::note;
-use crate::replaying::check_trace;
-use crate::run::run;
-use crate::setting::set;
-use crate::stepping::show_generation;
-use crate::{Job, Status};
 use std::alloc::Global;
 use surf_base::{ReadAllError, Sink, Source, read_all};
+use surf_command_automata::{compile_source, show_generation};
+use surf_command_circuits::{compile_circuit, evaluate, set};
+use surf_command_runs::{format, run};
+use surf_command_traces::{check_trace, show_finals, show_observed};
+use surf_status::{Status, note};
 
 /// The most bytes that an input may have.
 const LIMIT: u64 = 268_435_456;
@@ -28,7 +24,7 @@ const LIMIT: u64 = 268_435_456;
 fn carry_out<K: Sink>(alloc: Global, job: &Job<'_>, input: Vec<u8>, out: &mut K) -> Status
     requires small { length input.items ≤ 268435456 }
     requires within { IsWithin (meant job.now) }
-    ensures ends { EndsJob (meant job.now) input.items
+    ensures ends { EndsAs (call_of (meant job.now) input.items)
         (writes K.written K.faults out.old out.new) result }
     ensures quiet { IsQuiet result → out.new ≡ out.old }
 {

@@ -1,0 +1,3 @@
+pub mod CellNames
+pub mod Automata
+pub mod Sound

@@ -1,0 +1,3 @@
+pub mod Valued
+pub mod Surfaces
+pub mod Sound

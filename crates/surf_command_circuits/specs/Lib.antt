@@ -1,0 +1,5 @@
+pub mod Bits
+pub mod Values
+pub mod Compiled
+pub mod Sets
+pub mod Calls

@@ -1,0 +1,4 @@
+pub mod LastWords
+pub mod Simulated
+pub mod Shown
+pub mod Sound

@@ -1,0 +1,4 @@
+pub mod Replayed
+pub mod Finals
+pub mod Observed
+pub mod Sound

@@ -1,0 +1,4 @@
+pub mod Traced
+pub mod Finals
+pub mod Observed
+pub mod Calls

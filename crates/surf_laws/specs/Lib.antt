@@ -1,0 +1,5 @@
+pub mod ReadBack
+pub mod CircuitLaws
+pub mod CircuitsRound
+pub mod Watched
+pub mod AutomataRound

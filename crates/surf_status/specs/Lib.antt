@@ -1,0 +1,4 @@
+pub mod Writes
+pub mod Notes
+pub mod Calls
+pub mod Endings

@@ -1,5 +1,0 @@
-use Rattle.surf_top.proofs.ReadInStep.{are_read_in_step}
-use Rattle.surf_top.proofs.laws.cells_are_observed.Goals as goal
-
-pub returns : goal.returns
-returns c = are_read_in_step

@@ -1,5 +1,0 @@
-use Rattle.surf_top.proofs.CircuitsRound.{circuits_are_carried_round}
-use Rattle.surf_top.proofs.laws.circuits_are_carried_round.Goals as goal
-
-pub returns : goal.returns
-returns c = circuits_are_carried_round
