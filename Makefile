@@ -1,8 +1,13 @@
-.PHONY: run test bench examples build
+.PHONY: run try test bench examples build
 
-# builds the program and runs the two-site example; the log of the build is shown only where it fails
+# proves the crates that the program needs, side by side, builds it and runs the two-site example; the log of what fails is shown
 run:
-	@cd crates/surf && rt run -- run 1 10 < ../../examples/two_sites.txt 2> ../../build.log || { cat ../../build.log >&2; exit 1; }
+	@prove/run run 1 10 < examples/two_sites.txt
+
+# runs the two-site example with no proof
+try:
+	@echo 'make try proves nothing: it builds the program without its proofs, and make run proves it' >&2
+	@cd crates/surf && rt try -- run 1 10 < ../../examples/two_sites.txt
 
 # proves everything, tries the edits that must be refused, and runs the tests and the repository's own checks
 test:
