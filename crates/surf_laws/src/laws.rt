@@ -2,6 +2,7 @@
 ghost use Rattle.surf_laws.specs.AutomataRound.{ColoniesAreOfCells, GenerationsAreTold, RunGenerationsAreTold, RunsAreCarried, TracesAreCarried};
 ghost use Rattle.surf_laws.specs.CircuitLaws.{SurfacesAreSet};
 ghost use Rattle.surf_laws.specs.CircuitsRound.{CircuitsAreCarried};
+ghost use Rattle.surf_laws.specs.OneText.{OneText};
 ghost use Rattle.surf_laws.specs.ReadBack.{AreReadBack, PrintsAreReadBack, PrintsEndLines, RunsAreReadBack, RunsAreShort, TracesAreReadBack};
 ghost use Rattle.surf_laws.specs.Watched.{AreReadInStep};
 
@@ -59,4 +60,9 @@ pub fn automata_are_carried_round()
     ensures traces { TracesAreCarried }
     ensures runs { RunsAreCarried }
     ensures names { ColoniesAreOfCells }
+{}
+
+/// What `circuit` writes for an input is one text, whichever numbers the names of its circuit have.
+pub fn circuits_have_one_text()
+    ensures { OneText }
 {}
