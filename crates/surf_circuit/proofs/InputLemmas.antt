@@ -1,11 +1,13 @@
 -- Inputs that are looked at, and set, one after another.
-use Rattle.std.proofs.Common.{ℕ, zero, suc, ◌≡◌, ◌+◌, ◌<◌, Bool, true, false, nat_lt, List, [], ◌∷◌, length, drop, get_or, Some, None, refl, sym, ◌∙◌, ap, arith, drop-cons, add-one, ⊎_elim, subst, unwrap_or}
+use Rattle.std.proofs.Common.{ℕ, zero, suc, ◌≡◌, ◌+◌, ◌<◌, Bool, true, false, nat_lt, List, [], ◌∷◌, ◌++◌, length, drop, if◌then◌else◌, get_or, Some, None, refl, sym, ◌∙◌, ap, arith, drop-cons, add-one, ⊎_elim, subst, unwrap_or}
 use Rattle.std.specs.Prelude.{slice_get, slice_set}
 use Rattle.std.proofs.lemmas.Bool.{and_parts, cases_Bool, ltb-true}
 use Rattle.surf_lattice.specs.Grids.{Grid, IsInside, place}
 use Rattle.surf_world.specs.Systems.{System}
 use Rattle.surf_manifest.specs.Numbered.{NamedManifest, with_start, with_site}
-use Rattle.surf_rules.specs.Names.{text_of}
+use Rattle.std.specs.List.{list_any}
+use Rattle.std.specs.Str.{bytes_eq}
+use Rattle.surf_rules.specs.Names.{text_of, with_text}
 use Rattle.std.proofs.lemmas.Option.{slice_get_within}
 use Rattle.surf_manifest_print.specs.declared.legend.Place.{Place}
 use Rattle.surf_circuit.specs.declared.inputs.SetError.TheVariants.{NotInput}
@@ -74,3 +76,16 @@ module _ (m n : NamedManifest) (same : m ≡ with_start n m.text.system.start) w
 
   pub left_more : (put : NamedManifest) (g : Grid) (start : List (List ℕ)) (ps : List Place) (bits : List Bool) → put ≡ with_start n start → with_bits g start ps bits ≡ with_bits g put.text.system.start ps bits
   left_more put g start ps bits is = ap (λ v. with_bits g v ps bits) (sym (ap (λ (v : NamedManifest). v.text.system.start) is))
+
+-- a name keeps its number where one is added
+front_at : (ts us : List (List ℕ)) (k : ℕ) (t : List ℕ) → slice_get ts k ≡ Some t → slice_get (ts ++ us) k ≡ Some t
+front_at [] us k t at = absurd (let within = slice_get_within [] k t at in omega (arith, within))
+front_at (x ∷ ts) us zero t at = at
+front_at (x ∷ ts) us (suc k) t at = front_at ts us k t at
+
+front_if : (b : Bool) (ts : List (List ℕ)) (u : List ℕ) (k : ℕ) (t : List ℕ) → slice_get ts k ≡ Some t → slice_get (if b then ts else ts ++ u ∷ []) k ≡ Some t
+front_if true ts u k t at = at
+front_if false ts u k t at = front_at ts (u ∷ []) k t at
+
+pub added_at : (m n : NamedManifest) (u : List ℕ) (k : ℕ) (t : List ℕ) → n ≡ record m { names = with_text m.names u } → slice_get m.names k ≡ Some t → slice_get n.names k ≡ Some t
+added_at m n u k t is at = ap (λ (v : NamedManifest). slice_get v.names k) is ∙ front_if (list_any (bytes_eq u) m.names) m.names u k t at

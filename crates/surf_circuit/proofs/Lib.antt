@@ -8,3 +8,4 @@ pub mod Drawable
 pub mod OneSurface
 pub mod PrintedLemmas
 pub mod Answered
+pub mod StateNames

@@ -1,7 +1,8 @@
 -- Systems whose inputs are set to bits.
-use Rattle.std.specs.Prelude.{ℕ, ◌≡◌, Bool, false, ◌&&◌, ◌==◌, nat_lt, bytes_eq, codes, List, [], ◌∷◌, length, map, Option, Some, None, if◌then◌else◌, slice_get}
+use Rattle.std.specs.Prelude.{ℕ, ◌≡◌, Bool, true, false, ◌&&◌, ◌==◌, nat_lt, bytes_eq, codes, List, [], ◌∷◌, length, map, Option, Some, None, if◌then◌else◌, slice_get}
 use Rattle.surf_lattice.specs.declared.site.Site.{Site}
 use Rattle.surf_lattice.specs.Grids.{Grid, place}
+use Rattle.surf_rules.specs.Names.{with_text}
 use Rattle.surf_world.specs.Systems.{System}
 use Rattle.surf_tiles.specs.States.{digit}
 use Rattle.surf_settle.specs.Settling as settling
@@ -14,6 +15,10 @@ use Rattle.surf_circuit.specs.declared.inputs.SetError.TheVariants.{Length, NotI
 -- the name of a bit
 abbrev pub bit_name : Bool → List ℕ
 bit_name b = digit b ∷ []
+
+-- the names with `0` and then `1`, where they are lacking
+abbrev pub with_bit_names : List (List ℕ) → List (List ℕ)
+with_bit_names names = with_text (with_text names (bit_name false)) (bit_name true)
 
 -- the configuration with the name of each bit at the site of its place, and every other site as it
 -- was

@@ -1,5 +1,6 @@
 -- The names that sites begin with, by number.
-use Rattle.std.specs.Prelude.{ℕ, ◌≡◌, List, [], ◌∷◌, Some, slice_get, slice_index_or}
+use Rattle.std.specs.Prelude.{ℕ, ◌≡◌, List, [], ◌∷◌, Some, length, slice_get, slice_index_or}
+use Rattle.surf_rules.specs.Names.{AreDistinct}
 use Rattle.surf_tiles.specs.declared.kind.Kind.{Kind}
 use Rattle.surf_tiles.specs.declared.state.State.{State}
 use Rattle.surf_tiles.specs.Kinds.{name_of}
@@ -21,3 +22,10 @@ NumbersAll texts numbers =
 -- every text is the name of a state
 abbrev pub AreStates : List (List ℕ) → Type 0
 AreStates texts = (i : ℕ) (t : List ℕ) → slice_get texts i ≡ Some t → (s : State) × (t ≡ spell s)
+
+-- the names of all states, each once: they are 56
+pub record AreStateNames (texts : List (List ℕ)) : Type 0 where
+  pub states : AreStates texts
+  pub all : (s : State) → (i : ℕ) × (slice_get texts i ≡ Some (spell s))
+  pub distinct : AreDistinct texts
+  pub count : length texts ≡ 56

@@ -2,6 +2,7 @@
 ghost use Rattle.std.specs.Prelude.{◌<◌, ◌≡◌, ◌≤◌, IfOk, List, Some, length, ℕ};
 ghost use Rattle.surf_circuit.specs.Circuits.{CircuitHolds};
 ghost use Rattle.surf_circuit.specs.Compiled.{IsDrawn, IsPrinted, IsSurfaceOf};
+ghost use Rattle.surf_circuit.specs.Numbering.{AreStateNames};
 ghost use Rattle.surf_circuit.specs.Surfaces.{AreWords, Decomposes, IsSpelled};
 ghost use Rattle.surf_manifest_print.specs.Legends.{IsLegend};
 ghost use Rattle.surf_logic.specs.Equations.{PartsOf, cost_of};
@@ -71,6 +72,7 @@ fn on_surface(
         → CircuitHolds B r.0.text.system r.1) }
     ensures form { IfOk result (λ r. (B : PartsOf (List ℕ)) → IsSpelled B circuit.now → AreWords B
         → IsLegend (Some r.1)) }
+    ensures names { IfOk result (λ r. AreStateNames r.0.names) }
 {
     let manifest = manifest_of(alloc, layout)?;
     let legend = legend_of(alloc, circuit, layout)?;
@@ -100,7 +102,8 @@ pub fn compile_text(alloc: Global, circuit: &Circuit) -> Result<Vec<u8>, NoMemor
 /// The surface of a circuit as a manifest, and its legend.
 ///
 /// The cost of the circuit is at most 1,000. The surface has all rules of circuits, and is set to
-/// bits by `set_inputs`. In every run it shows at its outputs what the circuit evaluates to.
+/// bits by `set_inputs`. In every run it shows at its outputs what the circuit evaluates to. The
+/// manifest has the names of the 56 states, `0` and `1` among them.
 pub fn compile(alloc: Global, circuit: &Circuit) -> Result<(Manifest, Legend), NoMemory>
     requires { cost_of circuit.now.parts ≤ 1000 }
     ensures surface { IfOk result (λ r. IsSurfaceOf circuit.now r.0.text r.1) }
@@ -108,6 +111,7 @@ pub fn compile(alloc: Global, circuit: &Circuit) -> Result<(Manifest, Legend), N
         → CircuitHolds B r.0.text.system r.1) }
     ensures form { IfOk result (λ r. (B : PartsOf (List ℕ)) → IsSpelled B circuit.now → AreWords B
         → IsLegend (Some r.1)) }
+    ensures names { IfOk result (λ r. AreStateNames r.0.names) }
 {
     let layout = layout_of(alloc, circuit)?;
     on_surface(alloc, circuit, &layout)

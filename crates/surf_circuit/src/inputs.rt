@@ -1,6 +1,6 @@
 // Bits at the inputs of a surface.
-ghost use Rattle.std.specs.Prelude.{◌-◌, ◌<◌, ◌^◌, ◌≡◌, ◌↔◌, IfErr, IfNone, IfOk, IfSome, IsTrue, None, OnErr, OnOk, Some, false, length, slice_get, true};
-ghost use Rattle.surf_circuit.specs.Inputs.{SetRefuses, bit_name, first_set, is_unset, set_fault, with_bits, with_inputs, with_system};
+ghost use Rattle.std.specs.Prelude.{◌-◌, ◌<◌, ◌^◌, ◌≡◌, ◌↔◌, ◌⊎◌, IfErr, IfNone, IfOk, IfSome, IsTrue, None, OnErr, OnOk, Some, false, length, slice_get, true};
+ghost use Rattle.surf_circuit.specs.Inputs.{SetRefuses, bit_name, first_set, is_unset, set_fault, with_bit_names, with_bits, with_inputs, with_system};
 ghost use Rattle.surf_lattice.specs.Grids.{IsInside, place};
 ghost use Rattle.surf_manifest.specs.Item.{is_name};
 ghost use Rattle.surf_manifest.specs.Numbered.{with_start};
@@ -94,8 +94,8 @@ fn intern(manifest: &mut Manifest, bytes: &[u8]) -> Result<u32, SetError>
 ///
 /// The manifest has fewer than 2^32 - 2 names. `Length` exactly where there are not as many bits as
 /// inputs; then `NotInput` exactly where an input's site is outside or doesn't hold `?`. After a
-/// refusal every site holds what it held; after `NoMemory` the names `0` and `1` may have been
-/// added. The manifest takes what memory it needs by itself.
+/// refusal every site holds what it held; after `NoMemory` the name `0` may have been added, and
+/// after `Ok` the names `0` and `1` are there. The manifest takes what memory it needs by itself.
 pub fn set_inputs(
     _alloc: Global,
     manifest: &mut Manifest,
@@ -111,6 +111,11 @@ pub fn set_inputs(
     ensures kept { OnErr result (manifest.new.text ≡ manifest.old.text) }
     ensures unchanged { IfErr result (λ e.
         (e ≡ SetError.NoMemory → ⊥) → manifest.new ≡ manifest.old) }
+    ensures names { OnOk result (manifest.new.names ≡ with_bit_names manifest.old.names) }
+    ensures left { OnErr result ((manifest.new ≡ manifest.old)
+        ⊎ (manifest.new ≡ record manifest.old {
+          names = with_text manifest.old.names (bit_name false);
+        })) }
 {
     let inputs = legend.inputs.as_slice();
     if bits.len() != inputs.len() {

@@ -1,7 +1,7 @@
 // The surface of a layout as a manifest.
 ghost use Rattle.std.specs.Prelude.{◌<◌, ◌^◌, ◌≡◌, IfOk, OnOk, length, map, slice_index_or};
 ghost use Rattle.surf_settle.specs.Indices.{kind_index};
-ghost use Rattle.surf_circuit.specs.Numbering.{NumbersAll};
+ghost use Rattle.surf_circuit.specs.Numbering.{AreStateNames, NumbersAll};
 ghost use Rattle.surf_circuit.specs.Surfaces.{layout_system, plain_manifest};
 ghost use Rattle.surf_settle.specs.Plans.{IsLayout};
 
@@ -31,12 +31,15 @@ fn start_of(alloc: Global, kinds: &[KindByte], numbers: &[u32]) -> Result<Vec<u3
 /// kind, no options and no colormap.
 pub(crate) fn manifest_of(alloc: Global, layout: &Layout) -> Result<Manifest, NoMemory>
     ensures text { IfOk result (λ m. m.text ≡ plain_manifest (layout_system layout.now)) }
+    ensures names { IfOk result (λ m. AreStateNames m.names) }
     ensures layout { OnOk result (IsLayout layout.now) }
     ensures sides { OnOk result ((layout.now.width < 2 ^ 32) × (layout.now.height < 2 ^ 32)) }
 {
     let mut names = Names::new(alloc);
     let rules = circuit_rules(alloc, &mut names)?;
     let numbers = number_kinds(alloc, &mut names)?;
+    // the list tells that no two of its names are the same
+    let _count = names.len();
     let start = start_of(alloc, layout.kinds(), &numbers)?;
     let grid = Grid::Square(Square::new(layout.width(), layout.height()));
     Ok(Manifest::assemble(alloc, grid, names, rules, start))

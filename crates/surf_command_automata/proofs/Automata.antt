@@ -15,7 +15,7 @@ use Rattle.surf_life.specs.Laws.{halves}
 use Rattle.surf_life.proofs.Halves.{steps_by_eight}
 use Rattle.surf_life.proofs.Rules.{starts_in_both}
 use Rattle.surf_rle.specs.Sources.{Source, Plain, Eight, ShowsSteps, universe_of}
-use Rattle.surf_command_automata.specs.Automata.{HoldsColony, in_phases, printed_colony}
+use Rattle.surf_command_automata.specs.Automata.{HoldsColony, colony_manifest, in_phases, printed_colony}
 use Rattle.surf_command_automata.specs.Generations.{source_of}
 use Rattle.surf_cells.specs.CellNames.{OfCells}
 use Rattle.surf_command_automata.proofs.CellNames.{colony_of_cells}
@@ -53,8 +53,8 @@ module _ (margin : ℕ) (last : Option ℕ) (input : List ℕ) (S : Source) (spe
   pub output_is : (r : Result (List ℕ) Refusal) → printed_colony last (Ok S) ≡ r → printed_colony last (source_of margin input) ≡ r
   output_is r is = ap (printed_colony last) spelled ∙ is
 
-  pub holds : (m : ManifestText) → m.system.surface.grid ≡ framed (universe_of S).grid → OfCells m.system → KeepsInStep (universe_of S) (in_phases (universe_of S) last) m.system → ShowsSteps S → manifest_of (print_of m None) ≡ Ok m → HoldsColony margin last input (print_of m None)
-  holds m grid names in_step steps read = record { source = S; spelled = spelled; manifest = m; read = read; grid = grid; names = names; in_step = in_step; steps = steps }
+  pub holds : (m : ManifestText) → m ≡ colony_manifest (universe_of S) last → IsUniverse (universe_of S) → StartsWithin (universe_of S) → m.system.surface.grid ≡ framed (universe_of S).grid → OfCells m.system → KeepsInStep (universe_of S) (in_phases (universe_of S) last) m.system → ShowsSteps S → manifest_of (print_of m None) ≡ Ok m → HoldsColony margin last input (print_of m None)
+  holds m colony universe starts grid names in_step steps read = record { source = S; spelled = spelled; manifest = m; read = read; colony = colony; universe = universe; starts = starts; grid = grid; names = names; in_step = in_step; steps = steps }
 
 -- a universe shows its own steps
 pub plain_steps : (U : Universe) → ShowsSteps (Plain U)

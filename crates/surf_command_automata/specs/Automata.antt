@@ -1,10 +1,10 @@
 -- The surface of the automaton that a text spells, as text.
 use Rattle.std.specs.Prelude.{ℕ, ◌≡◌, ◌*◌, nat_lt, List, [], Option, Some, None, Result, Ok, Err, if◌then◌else◌}
 use Rattle.surf_auto.specs.Locals.{rule_count_in}
-use Rattle.surf_auto.specs.Sync.{Universe}
+use Rattle.surf_auto.specs.Sync.{IsUniverse, Universe}
 use Rattle.surf_auto.specs.declared.error.SourceError.{SourceError}
 use Rattle.surf_auto.specs.declared.error.SourceError.TheVariants.{TooManyRules}
-use Rattle.surf_colony.specs.Colonies.{framed, printed}
+use Rattle.surf_colony.specs.Colonies.{StartsWithin, framed, printed}
 use Rattle.surf_colony.specs.InStep.{KeepsInStep}
 use Rattle.surf_manifest.specs.Grammar.{ManifestText, manifest_of}
 use Rattle.surf_manifest_print.specs.Prints.{print_of}
@@ -40,14 +40,18 @@ printed_colony None (Ok S) = Ok (colony_text (universe_of S) None)
 printed_colony (Some last) (Ok S) =
     unless_many (rule_count_in last (universe_of S).rule) (colony_text (universe_of S) (Some last))
 
--- The grammar reads in the text a manifest on the framed grid of what the input spells, whose names
--- are cells' and the frame's, and in every run of which the cells keep in step: a generation is a
--- phase there, and after all phases of k steps each cell shows what the source shows after k steps.
+-- The grammar reads in the text the colony of what the input spells: a manifest on the framed grid,
+-- whose names are cells' and the frame's, and in every run of which the cells keep in step. A
+-- generation is a phase there, and after all phases of k steps each cell shows what the source shows
+-- after k steps.
 pub record HoldsColony (margin : ℕ) (last : Option ℕ) (input text : List ℕ) : Type 0 where
   pub source : sources.Source
   pub spelled : source_of margin input ≡ Ok source
   pub manifest : ManifestText
   pub read : manifest_of text ≡ Ok manifest
+  pub colony : manifest ≡ colony_manifest (universe_of source) last
+  pub universe : IsUniverse (universe_of source)
+  pub starts : StartsWithin (universe_of source)
   pub grid : manifest.system.surface.grid ≡ framed (universe_of source).grid
   pub names : OfCells manifest.system
   pub in_step :

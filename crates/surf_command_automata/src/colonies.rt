@@ -10,7 +10,7 @@ ghost use Rattle.surf_manifest.specs.Grammar.{manifest_of};
 ghost use Rattle.surf_manifest_print.specs.Prints.{print_of};
 ghost use Rattle.surf_rle.specs.Sources.{Eight, Plain, ShowsSteps, Source, universe_of};
 ghost use Rattle.surf_status.specs.Calls.{IsQuiet};
-ghost use Rattle.surf_command_automata.specs.Automata.{in_phases, printed_colony};
+ghost use Rattle.surf_command_automata.specs.Automata.{colony_manifest, in_phases, printed_colony};
 ghost use Rattle.surf_status.specs.Calls.{EndsAs};
 ghost use Rattle.surf_command_automata.specs.Generations.{source_of};
 ghost use Rattle.surf_cells.specs.CellNames.{OfCells};
@@ -44,6 +44,10 @@ fn compile_ending<L: Local>(
         a.cells.items) }
     requires some { 1 ≤ last }
     requires limit { last ≤ 1000000 }
+    ensures colony { let a = automaton.now in
+        let U = universe (box_of a.kind a.wrap a.width a.height) (L.rule a.local) a.edge
+        a.cells.items in
+        IfOk result (λ m. m.text ≡ colony_manifest U (Some last)) }
     ensures text { let a = automaton.now in
         let U = universe (box_of a.kind a.wrap a.width a.height) (L.rule a.local) a.edge
         a.cells.items in
@@ -81,6 +85,10 @@ fn compile<L: Local>(
         a.cells.items) }
     requires few { rule_count (L.rule automaton.now.local) ≤ 1048576 }
     requires limits { IfSome last (λ n. (1 ≤ n) × (n ≤ 1000000)) }
+    ensures colony { let a = automaton.now in
+        let U = universe (box_of a.kind a.wrap a.width a.height) (L.rule a.local) a.edge
+        a.cells.items in
+        IfOk result (λ m. m.text ≡ colony_manifest U last) }
     ensures text { let a = automaton.now in
         let U = universe (box_of a.kind a.wrap a.width a.height) (L.rule a.local) a.edge
         a.cells.items in

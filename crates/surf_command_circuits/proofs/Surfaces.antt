@@ -14,7 +14,7 @@ use Rattle.surf_manifest_print.proofs.Whole.{reads_print}
 use Rattle.surf_circuit.specs.Circuits.{CircuitHolds}
 use Rattle.surf_circuit.specs.Compiled.{IsSurfaceOf}
 use Rattle.surf_circuit.specs.Surfaces.{AreWords, IsSpelled}
-use Rattle.surf_command_circuits.specs.Compiled.{HoldsCircuit}
+use Rattle.surf_command_circuits.specs.Compiled.{HoldsCircuit, IsCompiled}
 use Rattle.surf_command_circuits.specs.Calls.{circuit_call}
 
 module _ (input : List ℕ) (c : Numbered) (read : IsRead input c) where
@@ -29,15 +29,21 @@ module _ (input : List ℕ) (c : Numbered) (read : IsRead input c) where
   words = record { inputs = read.input_words; outputs = read.output_words }
 
   module _ (m : ManifestText) (l : LegendText) where
-    pub compiled_text : IsSurfaceOf c m l → (circuit_call input).Is (print_of m (Some l))
-    compiled_text surface = record { circuit = c; read = read; manifest = m; legend = l; surface = surface; is = refl }
-
     -- the grammar reads the manifest and the legend back
-    pub compiled_holds : IsWellFormed m → IsLegend (Some l) → CircuitHolds (parts_of input) m.system l → HoldsCircuit (parts_of input) (print_of m (Some l))
-    compiled_holds formed is holds = record {
+    pub compiled_text : IsSurfaceOf c m l → IsWellFormed m → IsLegend (Some l) → CircuitHolds (parts_of input) m.system l → (circuit_call input).Is (print_of m (Some l))
+    compiled_text surface formed is holds = record {
+      circuit = c;
+      read = read;
       manifest = m;
       legend = l;
-      read = reads_print m (Some l) formed is;
+      surface = surface;
+      is = refl;
+      read_back = reads_print m (Some l) formed is;
       told = reads_legend m l formed is holds.apart;
       computes = holds;
     }
+
+-- what was compiled computes the circuit
+pub compiled_holds : (input text : List ℕ) → IsCompiled input text → HoldsCircuit (parts_of input) text
+compiled_holds input text c =
+    record { manifest = c.manifest; legend = c.legend; read = c.read_back; told = c.told; computes = c.computes }

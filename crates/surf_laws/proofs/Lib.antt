@@ -6,3 +6,5 @@ pub mod ReadBack
 pub mod CircuitsRound
 pub mod Margins
 pub mod AutomataRound
+pub mod OneNetlist
+pub mod OneText

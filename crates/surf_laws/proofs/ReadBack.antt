@@ -26,7 +26,7 @@ use Rattle.surf_trace.proofs.ReadBack.{trace_back}
 use Rattle.surf_command_traces.specs.Finals.{legend_before}
 use Rattle.surf_command_runs.specs.Runs.{state_text}
 use Rattle.surf_command_traces.specs.Traced.{replay_of, manifest_before}
-use Rattle.surf_laws.specs.ReadBack.{EndsLine, IsReadBack, AreReadBack, RunsAreReadBack, IsToldBack, PrintsAreReadBack, PrintsEndLines}
+use Rattle.surf_laws.specs.ReadBack.{EndsLine, IsReadBack, AreReadBack, RunsAreShort, TracesAreReadBack, RunsAreReadBack, IsToldBack, PrintsAreReadBack, PrintsEndLines}
 use Rattle.surf_laws.proofs.ShortEvents.{events_short}
 
 -- texts whose lines are whole
@@ -170,12 +170,18 @@ module _ (text rest : List ℕ) (m : ManifestText) (es : List Event) (closed : I
 pub are_read_back : AreReadBack
 are_read_back text rest m es e read few short = is_read_back text rest m es (closed_text text e) read few short
 
+pub runs_are_short : RunsAreShort
+runs_are_short text m es read run = events_short m es (gives_well_formed text m read) run
+
+pub traces_are_read_back : TracesAreReadBack
+traces_are_read_back text rest m es e read run few = are_read_back text rest m es e read few (runs_are_short text m es read run)
+
 pub runs_are_read_back : RunsAreReadBack
 runs_are_read_back text out m count e read few r =
     let most = r.at_most in
     let rest = state_text m.system.surface.grid (left_by m.system.surface m.system.start r.events) r.word in
     subst (λ v. IsReadBack text v m r.events) (sym r.is)
-    (are_read_back text rest m r.events e read (omega (arith, most, few)) (events_short m r.events (gives_well_formed text m read) r.enabled))
+    (traces_are_read_back text rest m r.events e read r.enabled (omega (arith, most, few)))
 
 pub prints_end_lines : PrintsEndLines
 prints_end_lines m l = lines_end (legend_lines l) (geometry_text m.system.surface.grid.kind) (wrap_text m.system.surface.grid.wrap ∷ (map option_text m.options ++ block_lines m))

@@ -3,3 +3,4 @@ pub mod CircuitLaws
 pub mod CircuitsRound
 pub mod Watched
 pub mod AutomataRound
+pub mod OneText

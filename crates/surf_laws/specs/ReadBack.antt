@@ -1,6 +1,7 @@
 -- A manifest with a recorded run behind it is read as both.
 use Rattle.std.specs.Prelude.{ℕ, ◌≡◌, ◌^◌, ◌<◌, List, ◌++◌, length, All, codes, Option, Some, None, Ok}
 use Rattle.surf_world.specs.declared.event.Event.{Event}
+use Rattle.surf_world.specs.Systems.{IsRun}
 use Rattle.surf_manifest.specs.Grammar.{ManifestText, manifest_of}
 use Rattle.surf_manifest.specs.WellFormed.{IsWellFormed}
 use Rattle.surf_manifest_print.specs.Legends.{LegendText, IsLegend, AreApart}
@@ -31,7 +32,20 @@ AreReadBack =
     manifest_of text ≡ Ok m → length es < 2 ^ 64 → All IsShort es →
     IsReadBack text (trace_text es ++ rest) m es
 
--- and with what `run` prints of it, which is read as the events that this shows
+-- each number in a run of a manifest that the grammar reads fits
+abbrev pub RunsAreShort : Type 0
+RunsAreShort =
+    (text : List ℕ) (m : ManifestText) (es : List Event) → manifest_of text ≡ Ok m →
+    IsRun m.system.surface m.system.start es → All IsShort es
+
+-- so each run of fewer than 2^64 events is read back
+abbrev pub TracesAreReadBack : Type 0
+TracesAreReadBack =
+    (text rest : List ℕ) (m : ManifestText) (es : List Event) → EndsLine text →
+    manifest_of text ≡ Ok m → IsRun m.system.surface m.system.start es → length es < 2 ^ 64 →
+    IsReadBack text (trace_text es ++ rest) m es
+
+-- and so is what `run` prints, which is read as the events that this shows
 abbrev pub RunsAreReadBack : Type 0
 RunsAreReadBack =
     (text out : List ℕ) (m : ManifestText) (count : ℕ) → EndsLine text → manifest_of text ≡ Ok m →

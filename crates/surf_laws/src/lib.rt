@@ -7,6 +7,6 @@
 mod laws;
 
 pub use laws::{
-    automata_are_carried_round, cells_are_observed, circuits_are_carried_round, runs_are_read_back,
-    surfaces_are_set,
+    automata_are_carried_round, cells_are_observed, circuits_are_carried_round,
+    circuits_have_one_text, colonies_are_observed, runs_are_read_back, surfaces_are_set,
 };

@@ -7,6 +7,8 @@ use Rattle.surf_manifest.specs.Numbered.{NamedManifest}
 use Rattle.surf_settle.specs.Indices.{kind_index}
 use Rattle.surf_circuit.specs.Numbering.{NumbersAll}
 use Rattle.surf_circuit.proofs.SurfaceLemmas.{assembled, grown_names, rules_below, start_below}
+use Rattle.surf_circuit.proofs.StateNames.{state_names}
+use Rattle.surf_circuit.specs.Numbering.{AreStateNames}
 use Rattle.surf_circuit.proofs.surface.manifest_of.Goals as goal
 
 pub assemble-requires-clause-names : goal.assemble-requires-clause-names
@@ -32,3 +34,12 @@ returns-clause-text c =
     (all_kept 32 c.circuit_rules.new.names texts c.in_ok-rules.rules.items reactions c.number_kinds.ensures.grown c.in_ok-rules.ensures.rules)
     (subst (NumbersAll c.number_kinds.new.names) (sym c.deref.ensures.value) c.in_ok-numbers.ensures.numbers)
     (c.in_ok-start.ensures ∙ ap (map (λ k. slice_index_or numbers (kind_index k) 0)) c.kinds.ensures.is)
+
+pub returns-clause-names : goal.returns-clause-names
+returns-clause-names c =
+    let texts = c.number_kinds.new.names in
+    subst AreStateNames (sym (ap (λ (m : NamedManifest). m.names) c.assemble.ensures))
+    (state_names c.new-names.result c.circuit_rules.new.names texts c.in_ok-rules.rules.items c.deref.result.now c.new-names.ensures c.circuit_rules.ensures.grown c.number_kinds.ensures.grown
+    (all_kept 32 c.circuit_rules.new.names texts c.in_ok-rules.rules.items reactions c.number_kinds.ensures.grown c.in_ok-rules.ensures.rules)
+    (subst (NumbersAll c.number_kinds.new.names) (sym c.deref.ensures.value) c.in_ok-numbers.ensures.numbers)
+    c.len-count.ensures.distinct)

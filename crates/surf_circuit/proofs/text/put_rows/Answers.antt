@@ -1,4 +1,4 @@
-use Rattle.std.proofs.Common.{arith, ◌≡◌, ◌<◌, ◌∙◌, ap, length, take, drop}
+use Rattle.std.proofs.Common.{arith, ◌≡◌, ◌<◌, ◌∙◌, ap, take, drop}
 use Rattle.surf_tiles.specs.Kinds.{name_of}
 use Rattle.surf_manifest_print.proofs.PrintLemmas.{rows_on, sites_on}
 use Rattle.surf_circuit.proofs.text.put_rows.Goals as goal
