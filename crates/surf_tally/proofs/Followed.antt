@@ -1,12 +1,13 @@
 -- What is noted at the sites of an event is all that it changes.
 use Rattle.std.specs.Option.{option_map}
-use Rattle.std.proofs.Common.{ℕ, ◌≡◌, ◌+◌, ◌<◌, ◌≤◌, List, Option, Some, None, slice_get, inl, inr, refl, sym, ◌∙◌, ap, subst, arith}
+use Rattle.std.proofs.Common.{ℕ, ◌≡◌, ◌+◌, ◌<◌, ◌≤◌, List, Option, Some, None, length, slice_get, length-set, inl, inr, refl, sym, ◌∙◌, ap, subst, arith}
 use Rattle.std.proofs.lemmas.Bool.{cases_eq}
 use Rattle.std.proofs.lemmas.Option.{same_Some}
 use Rattle.surf_lattice.specs.declared.site.Site.{Site}
-use Rattle.surf_lattice.specs.Grids.{place}
+use Rattle.std.specs.Prelude.{slice_set}
+use Rattle.surf_lattice.specs.Grids.{Grid, place}
 use Rattle.surf_world.specs.declared.event.Event.{Event}
-use Rattle.surf_world.specs.Systems.{after}
+use Rattle.surf_world.specs.Systems.{Rule, after, with_rule, with_second}
 use Rattle.surf_world.specs.Worlds.{Placed}
 use Rattle.surf_world.specs.Renamings.{AreBelow}
 use Rattle.surf_world.proofs.Around.{IsAt, after_other}
@@ -23,6 +24,19 @@ next w e = record w { names = after w.surface w.names e }
 
 pub below_next : (n : ℕ) (w v : Placed) (e : Event) → v ≡ next w e → AreBelow n w.surface w.names → AreBelow n v.surface v.names
 below_next n w v e is below = subst (λ (u : Placed). AreBelow n u.surface u.names) (sym is) (after_below n w.surface w.names e below)
+
+second_long : (g : Grid) (c : List ℕ) (b : Option ℕ) (q : Option Site) → length (with_second g c b q) ≡ length c
+second_long g c None q = refl
+second_long g c (Some b) None = refl
+second_long g c (Some b) (Some q) = length-set c (place g q) b
+
+rule_long : (g : Grid) (c : List ℕ) (e : Event) (r : Option (Rule ℕ)) → length (with_rule g c e r) ≡ length c
+rule_long g c e None = refl
+rule_long g c e (Some r) = second_long g (slice_set c (place g e.first) r.left_after) r.right_after e.second ∙ length-set c (place g e.first) r.left_after
+
+-- an event takes no site away
+pub sites_next : (w v : Placed) (e : Event) → v ≡ next w e → length v.names ≡ length w.names
+sites_next w v e is = ap (λ (u : Placed). length u.names) is ∙ rule_long w.surface.grid w.names e (slice_get w.surface.rules e.rule)
 
 module _ (watched : ℕ) (table : List (Option Shown)) where
   -- a place is noted by what it shows in the world v

@@ -7,11 +7,11 @@ use Rattle.surf_world.specs.Renamings.{AreBelow}
 use Rattle.surf_world.specs.Worlds.{Placed}
 use Rattle.surf_pick.specs.Draws.{words_of}
 use Rattle.surf_sim.specs.Simulations.{Simulation, IsStep, event_then, next_of, sim_events}
-use Rattle.surf_sync.specs.Spelling.{Showing, shown_at}
+use Rattle.surf_sync.specs.Spelling.{shown_at}
 use Rattle.surf_tally.specs.declared.counts.Count.{Count}
 use Rattle.surf_tally.specs.declared.shown.Shown.{Shown}
 use Rattle.surf_tally.specs.Counting.{Going, Outcome, ended, noted, outcome}
-use Rattle.surf_tally.specs.Showings.{look, look_at, look_some, show_by, showing}
+use Rattle.surf_tally.specs.Showings.{look_at, look_some, show_by, showing}
 use Rattle.surf_tally.specs.Simulated.{events_from}
 use Rattle.surf_tally.proofs.Followed.{IsNoted, few_next, next}
 use Rattle.surf_tally.proofs.Noted.{outcome_end, outcome_on, shown_noted}
@@ -20,12 +20,12 @@ looked : (table : List (Option Shown)) (o : Option ℕ) → shown_at (show_by ta
 looked table None = refl
 looked table (Some m) = refl
 
-one_more : (now new : Simulation) (e : Event) (m : ℕ) → IsStep now new (Some e) → events_from now (suc m) ≡ e ∷ events_from new m
+pub one_more : (now new : Simulation) (e : Event) (m : ℕ) → IsStep now new (Some e) → events_from now (suc m) ≡ e ∷ events_from new m
 one_more now new e m step =
     ap (λ o. event_then o (λ f t. sim_events nat_eq now.placed.surface (next now.placed f).names t m)) step.0
     ∙ ap (λ (v : Placed). e ∷ sim_events nat_eq v.surface v.names (words_of new.generator) m) (sym step.1)
 
-no_more : (now : Simulation) (m : ℕ) → next_of nat_eq now.placed.surface now.placed.names (words_of now.generator) ≡ None → events_from now (suc m) ≡ []
+pub no_more : (now : Simulation) (m : ℕ) → next_of nat_eq now.placed.surface now.placed.names (words_of now.generator) ≡ None → events_from now (suc m) ≡ []
 no_more now m none = ap (λ o. event_then o (λ f t. sim_events nat_eq now.placed.surface (next now.placed f).names t m)) none
 
 module _ (table : List (Option Shown)) (watched count : ℕ) where

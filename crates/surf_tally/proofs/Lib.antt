@@ -2,3 +2,4 @@ pub mod Noted
 pub mod Followed
 pub mod Going
 pub mod Summed
+pub mod Moved

@@ -1,7 +1,7 @@
 -- What is noted at a place when it shows something new.
 use Rattle.std.specs.Prelude.{nat_lt, if◌then◌else◌, ◌==◌}
 use Rattle.std.specs.Option.{option_map}
-use Rattle.std.proofs.Common.{ℕ, zero, suc, ◌≡◌, ◌+◌, ◌-◌, ◌<◌, ◌≤◌, ◌⊎◌, Bool, true, false, List, [], ◌∷◌, Option, Some, None, slice_get, inl, inr, refl, sym, ◌∙◌, ap, subst, arith}
+use Rattle.std.proofs.Common.{ℕ, zero, suc, ◌≡◌, ◌+◌, ◌-◌, ◌<◌, ◌≤◌, Bool, true, false, List, [], ◌∷◌, Option, Some, None, slice_get, inl, inr, refl, sym, ◌∙◌, ap, subst, arith}
 use Rattle.std.proofs.lemmas.Bool.{cases_lt, eq-eqb, ne_eqb, lt-ltb, le-ltb}
 use Rattle.surf_world.specs.declared.event.Event.{Event}
 use Rattle.surf_world.specs.Systems.{Surface, after}

@@ -1,17 +1,16 @@
 -- Counts are summed up place by place.
 use Rattle.std.specs.Prelude.{filter, if◌then◌else◌, All, cond, nat_lt, unwrap_or}
 use Rattle.std.specs.Option.{option_map}
-use Rattle.std.proofs.Common.{ℕ, zero, suc, ◌≡◌, ◌+◌, ◌-◌, ◌<◌, ◌≤◌, min, max, Bool, true, false, List, [], ◌∷◌, length, map, drop, get_or, Option, Some, None, slice_get, refl, sym, ◌∙◌, ap, subst, arith, add-one}
+use Rattle.std.proofs.Common.{ℕ, zero, suc, ◌≡◌, ◌+◌, ◌-◌, ◌<◌, ◌≤◌, Bool, true, false, List, [], ◌∷◌, length, map, drop, get_or, Option, Some, None, slice_get, refl, sym, ◌∙◌, ap, subst, arith, add-one}
 use Rattle.std.proofs.Math.Path.{fun_ext}
 use Rattle.std.proofs.lemmas.Bool.{lt-ltb}
 use Rattle.std.proofs.lemmas.List.{drop_all, length-map}
 use Rattle.std.proofs.lemmas.List.Elements.{All-head, All-tail}
 use Rattle.std.proofs.lemmas.Option.{same_Some, slice_get-map, slice_get-get_or}
-use Rattle.surf_rules.specs.Names.{text_of}
 use Rattle.surf_world.specs.declared.event.Event.{Event}
 use Rattle.surf_world.specs.Systems.{Surface}
 use Rattle.surf_sync.specs.declared.code.Code.{Code}
-use Rattle.surf_sync.specs.Spelling.{Showing, code_in, shown_by}
+use Rattle.surf_sync.specs.Spelling.{code_in, shown_by}
 use Rattle.surf_trace.specs.Generations.{generation, observed}
 use Rattle.surf_trace.specs.Observations.{shown_in}
 use Rattle.surf_tally.specs.declared.counts.Count.{Count}

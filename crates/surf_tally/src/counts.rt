@@ -1,5 +1,5 @@
 // What is counted at each site while events happen.
-ghost use Rattle.std.specs.Prelude.{ℕ, ◌≡◌, ◌<◌, ◌^◌, ◌*◌, All, IfNone, IfOk, IfSome, Some, length, map, slice_get};
+ghost use Rattle.std.specs.Prelude.{ℕ, ◌≡◌, ◌<◌, ◌≤◌, ◌^◌, ◌*◌, ◌+◌, All, IfNone, IfOk, IfSome, Some, length, map, slice_get};
 ghost use Rattle.std.specs.Option.{option_map};
 ghost use Rattle.surf_lattice.specs.Grids.{IsInside, place};
 ghost use Rattle.surf_sim.specs.Simulations.{IsStep};
@@ -122,6 +122,8 @@ pub(crate) fn follow<L: Lattice, P: Picker>(
     requires right { (p : ℕ) (x : Count) → slice_get counts.old p ≡ Some x
         → x.shown ≡ look_at shown.now sim.old.placed p }
     ensures step { IsStep sim.old sim.new result }
+    ensures few { sim.new.sets ≤ sim.old.sets + 14 }
+    ensures counted { sim.old.sets ≤ sim.new.sets }
     ensures none { IfNone result (counts.new ≡ counts.old) }
     ensures noted { IfSome result (λ e. (p : ℕ) → slice_get counts.new p
         ≡ option_map (noted watched (look_at shown.now sim.new.placed p))

@@ -1,12 +1,12 @@
 // The tally of a simulation.
-ghost use Rattle.std.specs.Prelude.{ℕ, ◌≡◌, ◌<◌, ◌≤◌, All, IfOk, Some, length, slice_get};
+ghost use Rattle.std.specs.Prelude.{ℕ, ◌≡◌, ◌<◌, ◌≤◌, All, IfOk, OnErr, OnOk, Some, length, slice_get};
 ghost use Rattle.std.specs.Option.{option_map};
 ghost use Rattle.surf_pick.specs.Draws.{words_of};
 ghost use Rattle.surf_trace.specs.Observations.{shown_in};
 ghost use Rattle.surf_world.specs.Renamings.{AreBelow};
 ghost use Rattle.surf_tally.specs.Counting.{ended, outcome};
 ghost use Rattle.surf_tally.specs.Showings.{look, look_at, show_by};
-ghost use Rattle.surf_tally.specs.Simulated.{events_from};
+ghost use Rattle.surf_tally.specs.Simulated.{IsAfter, events_from};
 ghost use Rattle.surf_tally.specs.Tallies.{tally_of};
 
 use crate::counts::{Count, begin, follow};
@@ -37,6 +37,7 @@ fn follow_all<L: Lattice, P: Picker>(
     ensures ended { (p : ℕ) → option_map (ended watched) (slice_get counts.new p)
         ≡ option_map (outcome (show_by shown.now) sim.old.placed.surface sim.old.placed.names
         (events_from sim.old count) watched p) (slice_get counts.old p) }
+    ensures after { IsAfter sim.old count sim.new }
 {
     for n in 0..count {
         match follow(counts, shown, sim, watched) {
@@ -48,7 +49,8 @@ fn follow_all<L: Lattice, P: Picker>(
 }
 
 /// What the cells at these places come to in at most `count` events of a simulation, and how many
-/// of them are live in generation `watched`, which is not the first. It looks at each event once.
+/// of them are live in generation `watched`, which is not the first. It looks at each event once,
+/// and leaves the simulation after the last of them. After `NoMemory` it is as it was.
 pub fn tally<L: Lattice, P: Picker>(
     alloc: Global,
     sim: &mut Sim<L, P>,
@@ -60,8 +62,10 @@ pub fn tally<L: Lattice, P: Picker>(
     requires below { AreBelow (length names.now) sim.old.placed.surface sim.old.placed.names }
     requires places { All (λ p. p < length sim.old.placed.names) places.now }
     requires watched { 1 ≤ watched }
-    ensures { IfOk result (λ t. t ≡ tally_of (shown_in names.now) sim.old.placed.surface
+    ensures tally { IfOk result (λ t. t ≡ tally_of (shown_in names.now) sim.old.placed.surface
         sim.old.placed.names (events_from sim.old count) watched places.now) }
+    ensures after { OnOk result (IsAfter sim.old count sim.new) }
+    ensures err { OnErr result (sim.new ≡ sim.old) }
 {
     let shown = list_shown(alloc, names)?;
     let mut counts = begin(alloc, &shown, sim.world())?;

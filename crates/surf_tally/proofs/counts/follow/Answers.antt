@@ -1,9 +1,7 @@
-use Rattle.std.proofs.Common.{ℕ, ◌≡◌, ◌<◌, ◌∙◌, length, refl, sym, ap, subst, arith}
+use Rattle.std.proofs.Common.{◌∙◌, length, sym, arith}
 use Rattle.surf_lattice.specs.Grids.{place}
 use Rattle.surf_tally.specs.Showings.{look_at}
-use Rattle.surf_world.specs.Renamings.{AreBelow}
-use Rattle.surf_world.specs.Worlds.{Placed}
-use Rattle.surf_tally.proofs.Followed.{below_next, few_other, noted_alone, noted_pair}
+use Rattle.surf_tally.proofs.Followed.{below_next, few_other, noted_alone, noted_pair, sites_next}
 use Rattle.surf_tally.proofs.counts.follow.Goals as goal
 
 pub note-requires-in-Some-clause-below : goal.note-requires-in-Some-clause-below
@@ -30,3 +28,26 @@ returns-in-None-clause-noted g c =
 
 pub returns-in-None-clause-below : goal.returns-in-None-clause-below
 returns-in-None-clause-below g c = below_next (length c.args.shown.now) c.args.sim.now.placed c.step.new.self.placed c.in_ok-event.event c.in_ok-event.ensures.step.1 c.requires.below
+
+pub note-requires-clause-below : goal.note-requires-clause-below
+note-requires-clause-below g c =
+    (below_next (length c.args.shown.now) c.args.sim.now.placed c.world.result.now c.in_ok-event.event (c.world.ensures ∙ c.in_ok-event.ensures.step.1) c.requires.below).in_names
+
+pub note-requires-clause-sites : goal.note-requires-clause-sites
+note-requires-clause-sites g c =
+    c.requires.sites ∙ sym (sites_next c.args.sim.now.placed c.world.result.now c.in_ok-event.event (c.world.ensures ∙ c.in_ok-event.ensures.step.1))
+
+pub note-requires-in-Some-clause-sites : goal.note-requires-in-Some-clause-sites
+note-requires-in-Some-clause-sites g c =
+    let sites = sites_next c.args.sim.now.placed c.world-in-Some.result.now c.in_ok-event.event (c.world-in-Some.ensures ∙ c.in_ok-event.ensures.step.1) in
+    omega (arith, c.note.auto.counts, c.requires.sites, sites)
+
+pub returns-in-Some-clause-sites : goal.returns-in-Some-clause-sites
+returns-in-Some-clause-sites g c =
+    let sites = sites_next c.args.sim.now.placed c.step.new.self.placed c.in_ok-event.event c.in_ok-event.ensures.step.1 in
+    omega (arith, c.note.auto.counts, c.note-in-Some.auto.counts, c.requires.sites, sites)
+
+pub returns-in-None-clause-sites : goal.returns-in-None-clause-sites
+returns-in-None-clause-sites g c =
+    let sites = sites_next c.args.sim.now.placed c.step.new.self.placed c.in_ok-event.event c.in_ok-event.ensures.step.1 in
+    omega (arith, c.note.auto.counts, c.requires.sites, sites)

@@ -1,4 +1,4 @@
-use Rattle.std.proofs.Common.{rules, ℕ, ◌≡◌, ◌++◌, List, length, map, take, drop, sym, ap, subst, ◌∙◌, arith}
+use Rattle.std.proofs.Common.{rules, ℕ, ◌≡◌, ◌++◌, List, length, map, take, drop, sym, ap, ◌∙◌, arith}
 use Rattle.std.proofs.Math.Seq.{take-append_seam}
 use Rattle.surf_world.specs.Worlds.{Placed}
 use Rattle.surf_sync.specs.Spelling.{Showing}
@@ -32,8 +32,8 @@ follow_all-events-requires-clause-right g c =
     ∙ ap (λ (t : List (Option Shown)). map (λ m. first_count (look t m)) c.world.result.now.names) (sym table)
     ∙ ap (λ (v : Placed). map (λ m. first_count (look c.deref-2.result.now m)) v.names) c.world.ensures)
 
-pub returns : goal.returns
-returns g c =
+pub returns-clause-tally : goal.returns-clause-tally
+returns-clause-tally g c =
     let w = c.args.sim.now.placed in
     let es = events_from c.args.sim.now c.args.count in
     let shown : c.in_ok-shown.shown.items ≡ map shown_of c.args.names.now = search rules in
