@@ -1,9 +1,10 @@
-//! Tests of automata: texts that are read with a margin, and steps one by one and at once.
+//! Tests of automata: texts that are read with a margin, their steps, and the names of cells.
 //!
-//! Their cells, steps and refusals are rows of `surf_rows`.
+//! Each call succeeds once. Cells, steps and refusals are rows of `surf_rows`, and what surfaces of
+//! automata do in runs is tried on the built program.
 #![tactic(auto)]
 
 #[cfg(test)]
-mod margins;
+mod names;
 #[cfg(test)]
 mod steps;
