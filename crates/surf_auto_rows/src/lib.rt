@@ -1,16 +1,10 @@
-//! Tests of automata: many steps at once, texts that are read with a margin, and tori, of which some
-//! random ones are compared with a plain program.
+//! Tests of automata: texts that are read with a margin, their steps, and the names of cells.
 //!
-//! Their steps and refusals without a margin are rows of `surf_rows`.
+//! Each call succeeds once. Cells, steps and refusals are rows of `surf_rows`, and what surfaces of
+//! automata do in runs is tried on the built program.
 #![tactic(auto)]
 
 #[cfg(test)]
-mod locals;
-#[cfg(test)]
-mod margins;
-#[cfg(test)]
-mod soups;
+mod names;
 #[cfg(test)]
 mod steps;
-#[cfg(test)]
-mod tori;

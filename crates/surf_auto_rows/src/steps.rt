@@ -1,141 +1,53 @@
-// Steps one by one and at once.
-ghost use Rattle.std.specs.Prelude.{◌*◌, ◌≤◌};
-
-use std::alloc::{AllocError, Global};
-use std::process::Abort;
+// Patterns and tables that are read with a margin, and their steps.
+use std::alloc::AllocError;
 use std::test::Fail;
-use surf_auto::{Automaton, CountLocal, Local, TableLocal, step};
-use surf_lattice::GridKind;
+use surf_auto::{is_table, local_laws, step};
+use surf_life::{advance_moore, moore_laws};
+use surf_rle::{Pattern, read_rle};
+use surf_table::{read_table, rules_by_weights};
 
-// A box whose cells are the bits of a number. A dead cell becomes live beside 2 or 4 live ones, and a
-// live one stays beside 1 or 3.
-fn board(
-    alloc: Global,
-    kind: GridKind,
-    width: u32,
-    height: u32,
-    edge: u32,
-    bits: u32,
-) -> Result<Automaton<CountLocal>, Fail>
-    requires wide { 1 ≤ width }
-    requires high { 1 ≤ height }
-    requires few { width * height ≤ 32 }
-    requires edge { edge ≤ 1 }
-{
-    let degree = match kind {
-        GridKind::Square => 4,
-        GridKind::Hex => 6,
-    };
-    let birth = [false, false, true, false, true, false, false];
-    let survival = [false, true, false, true, false, false, false];
-    let local = CountLocal::new(degree, birth, survival);
-    let _degree = local.degree();
-    let mut cells = Vec::new(alloc);
-    for place in 0..width * height {
-        let bit = (bits >> place) % 2;
-        cells.push(bit)?;
+#[test]
+fn patterns_step(rt: HostRuntime) -> Result<(), Fail> {
+    local_laws();
+    let text = b"x = 1, y = 1, rule = B1/SV\no!";
+    assert!(rt; !is_table(text));
+    match read_rle(rt.alloc(), text, 1).map_err(|_| "refused")? {
+        Pattern::Count(mut found) => {
+            found.advance(rt.alloc(), 1).map_err(|_| AllocError)?;
+            assert!(rt; found.cells.as_slice() == [0, 1, 0, 1, 0, 1, 0, 1, 0].as_slice());
+        }
+        Pattern::Moore(_) => Err::<(), &str>("eight neighbours")?,
     }
-    Ok(Automaton {
-        kind,
-        wrap: false,
-        width,
-        height,
-        edge,
-        cells,
-        local,
-    })
+    Ok(())
 }
 
-// Takes the steps of the first automaton one by one and those of the second, which is the same, at
-// once.
-fn advances<L: Local>(
-    rt: &impl Abort,
-    alloc: Global,
-    first: &mut Automaton<L>,
-    second: &mut Automaton<L>,
-    times: u32,
-) -> Result<(), Fail> {
-    for _step in 0..times {
-        let next = step(alloc, first).map_err(|_| AllocError)?;
-        first.advance(alloc, 1).map_err(|_| AllocError)?;
-        assert_eq!(rt; first.cells.as_slice(), next.as_slice());
+// A cell that is born beside one of eight.
+#[test]
+fn patterns_of_eight_neighbours_step(rt: HostRuntime) -> Result<(), Fail> {
+    moore_laws();
+    let text = b"x = 1, y = 1, rule = B1/S\no!";
+    assert!(rt; !is_table(text));
+    match read_rle(rt.alloc(), text, 1).map_err(|_| "refused")? {
+        Pattern::Moore(mut found) => {
+            let next = step(rt.alloc(), &found).map_err(|_| AllocError)?;
+            assert!(rt; found.edge == 0);
+            advance_moore(rt.alloc(), &mut found, 1).map_err(|_| AllocError)?;
+            assert!(rt; found.cells.as_slice() == [1, 1, 1, 1, 0, 1, 1, 1, 1].as_slice());
+            assert!(rt; found.cells.as_slice() == next.as_slice());
+        }
+        Pattern::Count(_) => Err::<(), &str>("four neighbours")?,
     }
-    second.advance(alloc, times).map_err(|_| AllocError)?;
-    assert_eq!(rt; second.cells.as_slice(), first.cells.as_slice());
-    Ok(())
-}
-
-fn becomes(
-    rt: &impl Abort,
-    alloc: Global,
-    kind: GridKind,
-    width: u32,
-    height: u32,
-    edge: u32,
-    bits: u32,
-    times: u32,
-    wanted: u32,
-) -> Result<(), Fail>
-    requires wide { 1 ≤ width }
-    requires high { 1 ≤ height }
-    requires few { width * height ≤ 32 }
-    requires edge { edge ≤ 1 }
-{
-    let mut first = board(alloc, kind, width, height, edge, bits)?;
-    let mut second = board(alloc, kind, width, height, edge, bits)?;
-    advances(rt, alloc, &mut first, &mut second, times)?;
-    let after = board(alloc, kind, width, height, edge, wanted)?;
-    assert_eq!(rt; second.cells.as_slice(), after.cells.as_slice());
     Ok(())
 }
 
 #[test]
-fn advances_boards(rt: HostRuntime) -> Result<(), Fail> {
-    let alloc = rt.alloc();
-    becomes(&rt, alloc, GridKind::Square, 4, 4, 0, 25202, 0, 25202)?;
-    becomes(&rt, alloc, GridKind::Square, 4, 4, 0, 25202, 4, 608)?;
-    becomes(&rt, alloc, GridKind::Hex, 4, 4, 1, 25202, 3, 1043)?;
-    becomes(&rt, alloc, GridKind::Hex, 4, 4, 1, 25202, 4, 45818)?;
-    Ok(())
-}
-
-#[test]
-fn advances_narrow_boards(rt: HostRuntime) -> Result<(), Fail> {
-    let alloc = rt.alloc();
-    becomes(&rt, alloc, GridKind::Square, 5, 1, 1, 22, 4, 27)?;
-    becomes(&rt, alloc, GridKind::Square, 1, 5, 1, 22, 3, 14)?;
-    becomes(&rt, alloc, GridKind::Hex, 5, 1, 0, 14, 2, 4)?;
-    becomes(&rt, alloc, GridKind::Hex, 1, 5, 1, 22, 4, 14)?;
-    becomes(&rt, alloc, GridKind::Square, 1, 1, 1, 0, 3, 1)?;
-    becomes(&rt, alloc, GridKind::Hex, 1, 1, 0, 1, 1, 0)?;
-    Ok(())
-}
-
-// A resting cell is excited beside an excited one, then tired, then at rest again.
-fn excitable(alloc: Global) -> Result<Automaton<TableLocal>, Fail> {
-    let weights = vec![in alloc; 0, 1, 0]?;
-    let next = vec![in alloc; 0, 1, 1, 1, 1, 2, 2, 2, 2, 2, 0, 0, 0, 0, 0]?;
-    let local = TableLocal::new(4, weights, next);
-    let _degree = local.degree();
-    let cells = vec![in alloc; 0, 0, 0, 0, 1, 0, 0, 2, 0]?;
-    Ok(Automaton {
-        kind: GridKind::Square,
-        wrap: false,
-        width: 3,
-        height: 3,
-        edge: 2,
-        cells,
-        local,
-    })
-}
-
-#[test]
-fn advances_a_table(rt: HostRuntime) -> Result<(), Fail> {
-    let alloc = rt.alloc();
-    let mut first = excitable(alloc)?;
-    let mut second = excitable(alloc)?;
-    advances(&rt, alloc, &mut first, &mut second, 3)?;
-    let wanted = vec![in alloc; 2, 0, 2, 0, 0, 0, 2, 1, 2]?;
-    assert_eq!(rt; second.cells.as_slice(), wanted.as_slice());
+fn tables_step(rt: HostRuntime) -> Result<(), Fail> {
+    rules_by_weights();
+    let text =
+        b"automaton 1\ndegree 4\nstates 2\nedge 0\nweights 0 0\nnext 0 1\nnext 1 0\nsize 1 1\nrow 1\nend\n";
+    assert!(rt; is_table(text));
+    let found = read_table(rt.alloc(), text, 1).map_err(|_| "refused")?;
+    let next = step(rt.alloc(), &found).map_err(|_| AllocError)?;
+    assert!(rt; next.as_slice() == [1, 1, 1, 1, 0, 1, 1, 1, 1].as_slice());
     Ok(())
 }

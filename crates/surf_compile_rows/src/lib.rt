@@ -1,11 +1,10 @@
-//! Tests of legends, of inputs that are set, and of the surfaces of circuits.
+//! Tests of circuits, from their text to their surface, and of inputs that are set.
 //!
-//! What the printed surfaces do in runs are rows of `surf_rows`.
+//! Each call succeeds once. What surfaces are printed, what they do in runs, and what is refused
+//! are rows of `surf_rows`.
 #![tactic(auto)]
 
 #[cfg(test)]
+mod circuits;
+#[cfg(test)]
 mod inputs;
-#[cfg(test)]
-mod legends;
-#[cfg(test)]
-mod surfaces;

@@ -1,9 +1,7 @@
-//! Tests of manifests that are made, and of the lines of a legend.
+//! Tests of manifests that are made.
 //!
-//! What no command shows: the parts of a manifest, changes of one, and a print with a legend.
+//! What no command shows: the parts of a manifest, and changes of one; and each call succeeds once.
 #![tactic(auto)]
 
-#[cfg(test)]
-mod legends;
 #[cfg(test)]
 mod manifests;

@@ -4,7 +4,7 @@ use surf_base::{MemorySink, MemorySource, NoMemory};
 use surf_top::surf;
 
 /// The most bytes that an output may have here, and that the notes may have.
-const ROOM: usize = 1 << 20;
+const ROOM: usize = 1 << 24;
 
 /// What a call left: its exit status, its output and its notes.
 #[derive(Drop)]

@@ -8,6 +8,7 @@
 mod calling;
 mod marks;
 mod rows;
+mod sums;
 
 use crate::rows::Rows;
 use std::{env, fs, io};

@@ -3,6 +3,7 @@
 //     = NAME       opens a text, which later rows may ask for
 //     > WORDS      opens a row, or gives one more line of words for the same input
 //     < STATUS     closes the input; the answer follows
+//     ~ STATUS     closes the input; the answer's length and its sum follow
 //     + NAME       adds the text of that name
 //     | LINE       adds a line
 //
@@ -10,6 +11,7 @@
 // the whole of the notes, and nothing goes to the output. Other lines are comments.
 use crate::calling::{Answer, call};
 use crate::marks::push_line;
+use crate::sums::in_short;
 use std::alloc::{AllocError, Global};
 use std::mem;
 
@@ -36,6 +38,7 @@ pub struct Rows {
     name: String,
     input: Vec<u8>,
     status: u8,
+    short: bool,
     lines: Vec<u8>,
     part: Part,
     held: u64,
@@ -79,6 +82,7 @@ impl Rows {
             name: String::new(alloc),
             input: Vec::new(alloc),
             status: 0,
+            short: false,
             lines: Vec::new(alloc),
             part: Part::Nothing,
             held: 0,
@@ -98,7 +102,10 @@ impl Rows {
 
     // Calls the program with the words, and says what is wrong.
     fn check(&mut self, alloc: Global, words: &str) -> Result<Option<String>, AllocError> {
-        let answer = call(alloc, words, &self.input)?;
+        let mut answer = call(alloc, words, &self.input)?;
+        if self.short {
+            answer.out = in_short(alloc, &answer.out)?;
+        }
         if holds(&answer, self.status, &self.lines) {
             self.held = self.held.saturating_add(1);
             return Ok(None);
@@ -152,7 +159,8 @@ impl Rows {
         Ok(wrong)
     }
 
-    fn close_input(&mut self, alloc: Global, status: &str) {
+    fn close_input(&mut self, alloc: Global, status: &str, short: bool) {
+        self.short = short;
         self.input = mem::replace(&mut self.lines, Vec::new(alloc));
         self.status = match status {
             "0" => 0,
@@ -182,7 +190,9 @@ impl Rows {
             return self.open_row(alloc, words);
         }
         if let Some(status) = line.strip_prefix("< ") {
-            self.close_input(alloc, status);
+            self.close_input(alloc, status, false);
+        } else if let Some(status) = line.strip_prefix("~ ") {
+            self.close_input(alloc, status, true);
         } else if let Some(name) = line.strip_prefix("+ ") {
             self.add_text(name)?;
         } else if let Some(text) = line.strip_prefix("| ") {

@@ -7,8 +7,6 @@
 #[cfg(test)]
 mod draws;
 #[cfg(test)]
-mod pickers;
-#[cfg(test)]
 mod sets;
 #[cfg(test)]
 mod sims;

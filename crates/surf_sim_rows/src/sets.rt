@@ -6,7 +6,7 @@ use std::alloc::Global;
 use std::marker::Model;
 use std::test::Fail;
 use surf_base::NoMemory;
-use surf_lattice::{Hex, Lattice, Square, Torus};
+use surf_lattice::{Lattice, Square, Torus};
 use surf_pick::{Draw, Picker, PlainPicker};
 use surf_rules::RuleBook;
 use surf_sim::{Sim, most_total};
@@ -72,49 +72,23 @@ fn sets_of_a_step<L: Lattice + Drop>(alloc: Global, world: World<L>) -> Result<V
 }
 
 #[test]
-fn sets_each_weight_once(rt: HostRuntime) -> Result<(), Fail> {
-    let alloc = rt.alloc();
-    let pair = [0, 0, 0, 0, 0, 7, 5, 0, 0, 0, 0, 0];
-
-    let start = Vec::from_array(alloc, pair)?;
-    let world = World::new(alloc, Square::new(4, 3), busy_rules(alloc)?, start)?;
-    let eight = [0, 1, 1, 0, 1, 1, 1, 1, 0, 1, 1, 0];
-    assert_eq!(rt; sets_of_a_step(alloc, world)?.as_slice(), eight.as_slice());
-
-    let start = Vec::from_array(alloc, pair)?;
-    let world = World::new(alloc, Hex::new(4, 3), busy_rules(alloc)?, start)?;
-    let ten = [1, 1, 1, 0, 1, 1, 1, 1, 0, 1, 1, 1];
-    assert_eq!(rt; sets_of_a_step(alloc, world)?.as_slice(), ten.as_slice());
-    Ok(())
-}
-
-#[test]
 fn sets_a_site_beside_both_once(rt: HostRuntime) -> Result<(), Fail> {
     let alloc = rt.alloc();
     let start = vec![in alloc; 0, 0, 0, 0, 7, 5, 0, 0, 0]?;
     let torus = Torus::new(Square::new(3, 3));
     let world = World::new(alloc, torus, busy_rules(alloc)?, start)?;
     let seven = [0, 1, 1, 1, 1, 1, 0, 1, 1];
-    assert_eq!(rt; sets_of_a_step(alloc, world)?.as_slice(), seven.as_slice());
-    Ok(())
-}
-
-#[test]
-fn sets_the_weights_around_one_site(rt: HostRuntime) -> Result<(), Fail> {
-    let alloc = rt.alloc();
-    let start = vec![in alloc; 0, 0, 0, 0, 0, 9]?;
-    let world = World::new(alloc, Square::new(3, 2), busy_rules(alloc)?, start)?;
-    let three = [0, 0, 1, 0, 1, 1];
-    assert_eq!(rt; sets_of_a_step(alloc, world)?.as_slice(), three.as_slice());
+    assert!(rt; sets_of_a_step(alloc, world)?.as_slice() == seven.as_slice());
     Ok(())
 }
 
 #[test]
 fn passes_over_names_that_begin_no_pair(rt: HostRuntime) -> Result<(), Fail> {
     let alloc = rt.alloc();
-    let start = vec![in alloc; 0, 0, 0, 0, 0, 7, 5, 0, 0, 0, 0, 0]?;
-    let world = World::new(alloc, Square::new(4, 3), rules(alloc)?, start)?;
-    let two = [0, 0, 0, 0, 0, 1, 1, 0, 0, 0, 0, 0];
-    assert_eq!(rt; sets_of_a_step(alloc, world)?.as_slice(), two.as_slice());
+    let start = vec![in alloc; 0, 0, 0, 0, 7, 5, 0, 0, 0]?;
+    let torus = Torus::new(Square::new(3, 3));
+    let world = World::new(alloc, torus, rules(alloc)?, start)?;
+    let two = [0, 0, 0, 0, 1, 1, 0, 0, 0];
+    assert!(rt; sets_of_a_step(alloc, world)?.as_slice() == two.as_slice());
     Ok(())
 }

@@ -1,16 +1,7 @@
-//! Tests of runs and traces over several crates.
+//! Tests of recorded runs.
 //!
-//! Both pickers on many surfaces, and recorded runs of which one number is changed, against a plain
-//! reading of their rules; and states that are read off runs of cells.
+//! Each call succeeds once; what replays and readings answer is in the rows of `surf_rows`.
 #![tactic(auto)]
 
-#[cfg(test)]
-mod changes;
-#[cfg(test)]
-mod manifests;
-#[cfg(test)]
-mod observing;
-#[cfg(test)]
-mod pickers;
 #[cfg(test)]
 mod traces;

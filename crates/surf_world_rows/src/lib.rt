@@ -1,10 +1,8 @@
 //! Tests of grids, rules and surfaces.
 //!
-//! Each call succeeds once, and the definitions mean what they should on small surfaces.
+//! Each call succeeds once; what small surfaces do in runs is in the rows of `surf_rows`.
 #![tactic(auto)]
 
-#[cfg(test)]
-mod grids;
 #[cfg(test)]
 mod rules;
 #[cfg(test)]
