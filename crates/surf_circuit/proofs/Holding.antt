@@ -24,7 +24,7 @@ use Rattle.surf_settle.specs.Settling.{surface_of, blank_names, start_of, events
 use Rattle.surf_settle.specs.Settling as settling
 use Rattle.surf_manifest_print.specs.declared.legend.Place.{Place}
 use Rattle.surf_manifest_print.specs.Legends.{LegendText, is_place, IsLegend}
-use Rattle.surf_circuit.specs.Inputs.{bit_name, with_inputs}
+use Rattle.surf_inputs.specs.Inputs.{bit_name, with_inputs}
 use Rattle.surf_circuit.specs.Circuits.{SettlesTo, Computes, CircuitHolds}
 use Rattle.surf_manifest.specs.Grammar.{ManifestText}
 use Rattle.surf_circuit.specs.Surfaces.{places, plain_manifest, layout_system, layout_legend, IsSpelled, AreWords, Decomposes, LayoutsCompute}

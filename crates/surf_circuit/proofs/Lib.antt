@@ -1,4 +1,3 @@
-pub mod InputLemmas
 pub mod Holding
 pub mod PlaceLemmas
 pub mod KindLemmas

@@ -8,9 +8,9 @@ use Rattle.surf_lattice.specs.declared.site.Site.{Site}
 use Rattle.surf_lattice.specs.Grids.{Grid, place}
 use Rattle.surf_world.specs.Systems.{System, Holds}
 use Rattle.surf_settle.specs.Settling as settling
-use Rattle.surf_manifest.specs.Item.{is_name}
+use Rattle.surf_manifest_lines.specs.Item.{is_name}
 use Rattle.surf_manifest_print.specs.declared.legend.Place.{Place}
-use Rattle.surf_circuit.specs.Inputs.{bit_name, is_unset, first_set}
+use Rattle.surf_inputs.specs.Inputs.{bit_name, is_unset, first_set}
 use Rattle.surf_circuit.specs.Surfaces.{CircuitsAreSet, SetsKeepForm}
 
 both : (a b : Bool) → a ≡ true → b ≡ true → (a && b) ≡ true

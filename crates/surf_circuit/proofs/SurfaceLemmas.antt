@@ -25,7 +25,7 @@ use Rattle.surf_settle.specs.Plans.{IsLayout}
 use Rattle.surf_settle.specs.Settling.{circuit_rules}
 use Rattle.surf_settle.proofs.Said.{named}
 use Rattle.surf_manifest.specs.Drafts.{NamesBelow, RulesBelow, named_rule}
-use Rattle.surf_manifest.specs.Item.{is_name}
+use Rattle.surf_manifest_lines.specs.Item.{is_name}
 use Rattle.surf_manifest.specs.WellFormed.{IsWellFormed}
 use Rattle.surf_settle.specs.Indices.{kind_index}
 use Rattle.surf_circuit.specs.Numbering.{NumbersAll}

@@ -8,7 +8,7 @@ use Rattle.surf_world.specs.declared.event.Event.{Event}
 use Rattle.surf_world.specs.Systems.{System, Holds, IsRun, Stuck, left_by}
 use Rattle.surf_manifest_print.specs.declared.legend.Place.{Place}
 use Rattle.surf_manifest_print.specs.Legends.{LegendText, AreApart}
-use Rattle.surf_circuit.specs.Inputs.{bit_name, with_inputs}
+use Rattle.surf_inputs.specs.Inputs.{bit_name, with_inputs}
 
 -- the i-th of the places holds the name of the i-th value
 abbrev pub ShowsAt : System (List ℕ) → List (List ℕ) → List Place → List Bool → ℕ → Type 0

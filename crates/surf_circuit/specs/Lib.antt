@@ -1,4 +1,3 @@
-pub mod Inputs
 pub mod Circuits
 pub mod Surfaces
 pub mod Numbering

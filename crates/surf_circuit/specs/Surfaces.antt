@@ -17,7 +17,7 @@ use Rattle.surf_manifest.specs.Grammar.{ManifestText}
 use Rattle.surf_manifest_print.specs.declared.legend.Place.{Place}
 use Rattle.surf_manifest_print.specs.Legends.{LegendText}
 use Rattle.surf_manifest.specs.WellFormed.{IsWellFormed}
-use Rattle.surf_circuit.specs.Inputs.{set_fault, with_inputs, with_system}
+use Rattle.surf_inputs.specs.Inputs.{set_fault, with_inputs, with_system}
 use Rattle.surf_circuit.specs.Circuits.{CircuitHolds}
 
 -- the i-th name with the i-th site

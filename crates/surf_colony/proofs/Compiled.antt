@@ -17,7 +17,7 @@ use Rattle.surf_world.specs.Worlds.{rule_of}
 use Rattle.surf_auto.specs.Locals.{rule_count_in}
 use Rattle.surf_auto.specs.Sync.{IsUniverse, Universe}
 use Rattle.surf_manifest.specs.Drafts.{named_rule, NamesBelow, RulesBelow}
-use Rattle.surf_manifest.specs.Item.{is_name}
+use Rattle.surf_manifest_lines.specs.Item.{is_name}
 use Rattle.surf_manifest.proofs.Growth.{text_at, texts_with}
 use Rattle.surf_sync.specs.Codes.{IsCode, IsMark, Mark, Protocol, fields_by, phase, protocol}
 use Rattle.surf_sync.specs.Codes.Mark.{Cell, Frame}

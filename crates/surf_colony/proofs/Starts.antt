@@ -15,7 +15,7 @@ use Rattle.surf_sync.specs.Rules.{below}
 use Rattle.surf_sync.proofs.Loops.{map_map}
 use Rattle.surf_auto.specs.Sync.{Universe, IsUniverse, state_at}
 use Rattle.surf_text.specs.Bytes.{is_plain}
-use Rattle.surf_manifest.specs.Item.{is_name}
+use Rattle.surf_manifest_lines.specs.Item.{is_name}
 use Rattle.surf_sync.specs.Codes.{Mark}
 use Rattle.surf_sync.specs.Codes.Mark.{Frame, Cell}
 use Rattle.surf_sync.specs.Spelling.{spell}

@@ -3,7 +3,7 @@ use Rattle.std.specs.Prelude.{◌≡◌, ℕ, ◌≤◌, true, List, length, All
 use Rattle.std.specs.List.{list_all}
 use Rattle.surf_rules.specs.declared.rule.Rule.{Rule}
 use Rattle.surf_manifest.specs.Drafts.{RulesBelow}
-use Rattle.surf_manifest.specs.Item.{is_name}
+use Rattle.surf_manifest_lines.specs.Item.{is_name}
 
 -- the texts can be names, the rules are over their numbers, and both are few enough
 pub record AreParts (names : List (List ℕ)) (rules : List Rule) : Type 0 where

@@ -6,7 +6,7 @@ ghost use Rattle.surf_colony.specs.Colonies.{border, first_mark, framed};
 ghost use Rattle.surf_colony.specs.Numbers.{SlotsName, cell_place, cell_state, name_slot, slot_count};
 ghost use Rattle.surf_lattice.specs.AnyGrid.{grid_of};
 ghost use Rattle.surf_lattice.specs.Grids.{IsInside, site_at, sites};
-ghost use Rattle.surf_manifest.specs.Item.{is_name};
+ghost use Rattle.surf_manifest_lines.specs.Item.{is_name};
 ghost use Rattle.surf_sync.specs.Listing.{Keeps, Name};
 ghost use Rattle.surf_sync.specs.Spelling.{spell};
 

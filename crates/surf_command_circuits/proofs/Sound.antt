@@ -5,9 +5,9 @@ use Rattle.surf_blif.specs.declared.error.BlifError.{BlifError}
 use Rattle.surf_blif.specs.declared.error.BlifError.TheVariants as blifs
 use Rattle.surf_blif.specs.Grammar.{Unsupported, BadLine, BadCover, MixedCover}
 use Rattle.surf_blif.specs.Blifs.{InText, TooLarge, InCircuit}
-use Rattle.surf_circuit.specs.declared.inputs.SetError.{SetError}
-use Rattle.surf_circuit.specs.declared.inputs.SetError.TheVariants as sets
-use Rattle.surf_circuit.specs.Inputs.{set_fault}
+use Rattle.surf_inputs.specs.declared.inputs.SetError.{SetError}
+use Rattle.surf_inputs.specs.declared.inputs.SetError.TheVariants as sets
+use Rattle.surf_inputs.specs.Inputs.{set_fault}
 use Rattle.surf_status.specs.declared.status.Refusal.{Refusal}
 use Rattle.surf_status.specs.declared.status.Refusal.TheVariants.{Manifest, Legend, LegendSite, Trace, NotCells, Blif, Bits, NotInput, Source}
 use Rattle.surf_status.specs.Calls.{IsExclusive}

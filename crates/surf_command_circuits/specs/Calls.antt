@@ -3,7 +3,7 @@ use Rattle.std.specs.Prelude.{ℕ, ◌≡◌, Bool, List, None, Some, Err, IsOk}
 use Rattle.surf_blif.specs.Blifs.{Refuses, parts_of}
 use Rattle.surf_blif.specs.declared.error.BlifError.{BlifError}
 use Rattle.surf_blif.specs.declared.error.BlifError.TheVariants as blifs
-use Rattle.surf_circuit.specs.declared.inputs.SetError.TheVariants as sets
+use Rattle.surf_inputs.specs.declared.inputs.SetError.TheVariants as sets
 use Rattle.surf_manifest.specs.Grammar.{manifest_of}
 use Rattle.surf_manifest_print.specs.LegendTexts.{legend_of}
 use Rattle.surf_status.specs.declared.status.Refusal.{Refusal}

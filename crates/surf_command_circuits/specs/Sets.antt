@@ -4,8 +4,8 @@ use Rattle.surf_manifest.specs.Grammar.{ManifestText, manifest_of}
 use Rattle.surf_manifest_print.specs.Legends.{LegendText}
 use Rattle.surf_manifest_print.specs.LegendTexts.{legend_of}
 use Rattle.surf_manifest_print.specs.Prints.{print_of}
-use Rattle.surf_circuit.specs.declared.inputs.SetError.{SetError}
-use Rattle.surf_circuit.specs.Inputs.{set_fault, with_inputs, with_system}
+use Rattle.surf_inputs.specs.declared.inputs.SetError.{SetError}
+use Rattle.surf_inputs.specs.Inputs.{set_fault, with_inputs, with_system}
 
 -- the input spells a manifest and its legend
 pub record HasLegend (input : List ℕ) (m : ManifestText) (l : LegendText) : Type 0 where

@@ -15,7 +15,8 @@ use surf_status::{Status, ended, refused_blif};
 /// inputs and outputs.
 pub fn compile_circuit<K: Sink>(alloc: Global, input: Vec<u8>, out: &mut K) -> Status
     requires { length input.items ≤ 268435456 }
-    ensures ends { EndsAs (circuit_call input.items) (writes K.written K.faults out.old out.new) result }
+    ensures ends { EndsAs (circuit_call input.items)
+        (writes K.written K.faults out.old out.new) result }
     ensures quiet { IsQuiet result → out.new ≡ out.old }
 {
     let circuit = match read_blif(alloc, &input) {

@@ -9,7 +9,7 @@ ghost use Rattle.surf_command_circuits.specs.Calls.{set_call};
 use crate::bits::bits_of;
 use std::alloc::Global;
 use surf_base::{Sink, write_all};
-use surf_circuit::set_inputs;
+use surf_inputs::set_inputs;
 use surf_manifest::read_manifest;
 use surf_manifest_print::{print_manifest, read_legend};
 use surf_status::{Status, ended, refused, refused_legend, refused_set};
@@ -18,7 +18,8 @@ use surf_status::{Status, ended, refused, refused_legend, refused_set};
 /// and with the same legend.
 pub fn set<K: Sink>(alloc: Global, input: Vec<u8>, word: &[u8], out: &mut K) -> Status
     requires { length input.items ≤ 268435456 }
-    ensures ends { EndsAs (set_call (bits_of word.now) input.items) (writes K.written K.faults out.old out.new) result }
+    ensures ends { EndsAs (set_call (bits_of word.now) input.items)
+        (writes K.written K.faults out.old out.new) result }
     ensures quiet { IsQuiet result → out.new ≡ out.old }
 {
     let mut manifest = match read_manifest(alloc, &input) {

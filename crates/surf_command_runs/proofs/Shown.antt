@@ -15,7 +15,7 @@ use Rattle.surf_sim.proofs.Events.{are_run, are_few, ends_stuck, events_renamed}
 use Rattle.surf_trace.specs.Traces.{trace_text}
 use Rattle.surf_manifest.specs.Grammar.{ManifestText, manifest_of}
 use Rattle.surf_manifest.specs.Numbered.{IsNumbered}
-use Rattle.surf_manifest.specs.declared.error.ManifestError.{ManifestError}
+use Rattle.surf_manifest_lines.specs.declared.error.ManifestError.{ManifestError}
 use Rattle.surf_cells.proofs.Below.{left_below}
 use Rattle.surf_command_runs.specs.Runs.{state_text, last_word, word_for, text_of_events, LastWord, ShowsRun}
 use Rattle.surf_pick.specs.Draws.{seeded, words_of}

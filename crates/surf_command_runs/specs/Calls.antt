@@ -1,7 +1,7 @@
 -- What `run` and `format` promise of an input.
 use Rattle.std.specs.Prelude.{ℕ, ◌≡◌, List, None, Result, Ok, Err, IsOk}
 use Rattle.surf_manifest.specs.Grammar.{ManifestText, manifest_of}
-use Rattle.surf_manifest.specs.declared.error.ManifestError.{ManifestError}
+use Rattle.surf_manifest_lines.specs.declared.error.ManifestError.{ManifestError}
 use Rattle.surf_manifest_print.specs.Prints.{print_of}
 use Rattle.surf_status.specs.declared.status.Refusal.{Refusal}
 use Rattle.surf_status.specs.declared.status.Refusal.TheVariants.{Manifest}

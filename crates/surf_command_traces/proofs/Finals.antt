@@ -14,8 +14,8 @@ use Rattle.surf_world.specs.Worlds.{Placed}
 use Rattle.surf_world.proofs.Decisions.{inside_to}
 use Rattle.surf_world.proofs.Renamed.{left_renamed}
 use Rattle.surf_text.specs.Bytes.{lines_of}
-use Rattle.surf_manifest.specs.Answers as manifests
-use Rattle.surf_manifest.specs.declared.error.ManifestError.{ManifestError}
+use Rattle.surf_manifest_lines.specs.Answers as manifests
+use Rattle.surf_manifest_lines.specs.declared.error.ManifestError.{ManifestError}
 use Rattle.surf_manifest.specs.Grammar.{ManifestText}
 use Rattle.surf_manifest.specs.Numbered.{IsNumbered}
 use Rattle.surf_manifest_print.specs.declared.legend.Place.{Place}

@@ -4,10 +4,10 @@ use Rattle.surf_rules.specs.Names.{text_of}
 use Rattle.surf_world.specs.declared.event.Event.{Event}
 use Rattle.surf_world.specs.Systems.{System, IsRun}
 use Rattle.surf_world.specs.Worlds.{Placed}
-use Rattle.surf_manifest.specs.Answers as manifests
+use Rattle.surf_manifest_lines.specs.Answers as manifests
 use Rattle.surf_manifest.specs.Grammar.{ManifestText}
 use Rattle.surf_manifest.specs.Numbered.{IsNumbered}
-use Rattle.surf_manifest.specs.declared.error.ManifestError.{ManifestError}
+use Rattle.surf_manifest_lines.specs.declared.error.ManifestError.{ManifestError}
 use Rattle.surf_sync.specs.Spelling.{shown_by}
 use Rattle.surf_trace.proofs.Renamed.{readings_renamed}
 use Rattle.surf_trace.specs.Observations.{shown_in, readings, is_cell, AreCells, Hinders}

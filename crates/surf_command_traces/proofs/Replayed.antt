@@ -7,10 +7,10 @@ use Rattle.surf_world.specs.Worlds.{Placed}
 use Rattle.surf_world.specs.Renamings.{renamed}
 use Rattle.surf_world.proofs.Renamed.{left_renamed, enabled_back, run_both, texts_apart}
 use Rattle.surf_text.specs.Bytes.{lines_of}
-use Rattle.surf_manifest.specs.Line.{line_of}
+use Rattle.surf_manifest_lines.specs.Line.{line_of}
 use Rattle.surf_manifest.specs.Grammar.{ManifestText, manifest_of, read_from}
 use Rattle.surf_manifest.specs.Numbered.{IsNumbered}
-use Rattle.surf_manifest.specs.declared.error.ManifestError.{ManifestError}
+use Rattle.surf_manifest_lines.specs.declared.error.ManifestError.{ManifestError}
 use Rattle.surf_trace.specs.Replays.{FirstBad}
 use Rattle.surf_trace.specs.Splits.{before_trace}
 use Rattle.surf_trace.specs.TraceTexts.{trace_of}

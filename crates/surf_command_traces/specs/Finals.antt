@@ -7,7 +7,7 @@ use Rattle.surf_world.specs.declared.event.Event.{Event}
 use Rattle.surf_world.specs.Choices.{inside_test}
 use Rattle.surf_world.specs.Systems.{IsRun, left_by}
 use Rattle.surf_manifest.specs.Grammar.{ManifestText}
-use Rattle.surf_manifest.specs.declared.error.ManifestError.{ManifestError}
+use Rattle.surf_manifest_lines.specs.declared.error.ManifestError.{ManifestError}
 use Rattle.surf_manifest_print.specs.declared.legend.Place.{Place}
 use Rattle.surf_manifest_print.specs.declared.legend_error.LegendError.{LegendError}
 use Rattle.surf_manifest_print.specs.Legends.{LegendText}

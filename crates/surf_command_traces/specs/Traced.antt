@@ -4,9 +4,9 @@ use Rattle.std.specs.Fmt.{decimal}
 use Rattle.surf_text.specs.Bytes.{lines_of}
 use Rattle.surf_world.specs.declared.event.Event.{Event}
 use Rattle.surf_world.specs.Systems.{IsRun}
-use Rattle.surf_manifest.specs.Line.{line_of}
+use Rattle.surf_manifest_lines.specs.Line.{line_of}
 use Rattle.surf_manifest.specs.Grammar.{ManifestText, read_from}
-use Rattle.surf_manifest.specs.declared.error.ManifestError.{ManifestError}
+use Rattle.surf_manifest_lines.specs.declared.error.ManifestError.{ManifestError}
 use Rattle.surf_trace.specs.Replays.{FirstBad}
 use Rattle.surf_trace.specs.Splits.{before_trace}
 use Rattle.surf_trace.specs.TraceTexts.{trace_of}

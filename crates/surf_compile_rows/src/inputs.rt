@@ -1,6 +1,7 @@
 // Inputs that are set at the places of a legend.
 use std::test::Fail;
-use surf_circuit::{circuits_are_set, set_inputs, sets_keep_form};
+use surf_circuit::{circuits_are_set, sets_keep_form};
+use surf_inputs::set_inputs;
 use surf_manifest::read_manifest;
 use surf_manifest_print::{legend_is_read, read_legend};
 

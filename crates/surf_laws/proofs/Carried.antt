@@ -8,7 +8,7 @@ use Rattle.surf_manifest_print.specs.Legends.{IsLegend}
 use Rattle.surf_manifest_print.specs.Prints.{print_of}
 use Rattle.surf_manifest_print.proofs.LegendBack.{reads_legend}
 use Rattle.surf_manifest_print.proofs.Whole.{reads_print}
-use Rattle.surf_circuit.specs.Inputs.{with_inputs, with_system}
+use Rattle.surf_inputs.specs.Inputs.{with_inputs, with_system}
 use Rattle.surf_circuit.proofs.Setting.{circuits_are_set, sets_keep_form}
 use Rattle.surf_laws.specs.CircuitLaws.{SetsAndSettles, SurfacesAreSet}
 use Rattle.surf_command_circuits.specs.Compiled.{HoldsCircuit}

@@ -15,7 +15,7 @@ use Rattle.surf_manifest_print.specs.declared.legend.Place.{Place}
 use Rattle.surf_manifest_print.specs.Legends.{LegendText}
 use Rattle.surf_manifest_print.specs.Prints.{print_of}
 use Rattle.surf_circuit.specs.Circuits.{ShowsAt, SettlesTo}
-use Rattle.surf_circuit.specs.Inputs.{bit_name, with_inputs, with_system}
+use Rattle.surf_inputs.specs.Inputs.{bit_name, with_inputs, with_system}
 use Rattle.surf_trace.specs.Traces.{trace_text}
 use Rattle.surf_laws.specs.CircuitLaws.{SetsAndSettles}
 use Rattle.surf_laws.specs.CircuitsRound.{TellsEnds, TellsRuns, RunsTell, CircuitsAreCarried}

@@ -7,7 +7,7 @@ use Rattle.std.proofs.lemmas.List.Folds.{list_all-append}
 use Rattle.surf_base.specs.Decimal.{decimal_of, decimal_below, if_below, is_digit, value_from}
 use Rattle.surf_lattice.specs.Grids.{site_from}
 use Rattle.surf_text.specs.Bytes.{is_word, lines_of, tokens_of}
-use Rattle.surf_manifest.proofs.WellFormed.{both}
+use Rattle.surf_manifest_lines.proofs.WellFormed.{both}
 use Rattle.surf_manifest_print.specs.declared.legend.Place.{Place}
 use Rattle.surf_manifest_print.specs.declared.legend_error.LegendError.{LegendError}
 use Rattle.surf_manifest_print.specs.declared.legend_line.LegendLine.{LegendLine}

@@ -7,12 +7,12 @@ use Rattle.surf_world.proofs.Renamed.{bytes_to}
 use Rattle.surf_text.specs.Bytes.{lines_of, tokens_of, trimmed, ended}
 use Rattle.surf_world.specs.declared.event.Event.{Event}
 use Rattle.surf_world.specs.Systems.{left_by}
-use Rattle.surf_manifest.specs.declared.error.ManifestError.{ManifestError}
-use Rattle.surf_manifest.specs.Line.{Line, Unknown, line_of, line_of_text}
+use Rattle.surf_manifest_lines.specs.declared.error.ManifestError.{ManifestError}
+use Rattle.surf_manifest_lines.specs.Line.{Line, Unknown, line_of, line_of_text}
 use Rattle.surf_manifest.specs.Grammar.{ManifestText, known, line_fault, unless_fault, read_from, manifest_of}
 use Rattle.surf_manifest.specs.WellFormed.{IsWellFormed}
 use Rattle.surf_manifest.proofs.Good.{gives_well_formed}
-use Rattle.surf_manifest.proofs.WellFormed.{both}
+use Rattle.surf_manifest_lines.proofs.WellFormed.{both}
 use Rattle.surf_manifest_print.specs.Legends.{LegendText, IsLegend}
 use Rattle.surf_manifest_print.specs.LegendTexts.{legend_in, legend_of}
 use Rattle.surf_manifest_print.specs.Prints.{block_lines, geometry_text, legend_lines, option_text, print_of, wrap_text}

@@ -6,16 +6,16 @@ use Rattle.std.specs.Str.{bytes_eq}
 use Rattle.std.proofs.lemmas.Bool.{cases_Bool}
 use Rattle.surf_world.specs.Systems as systems
 use Rattle.surf_lattice.specs.declared.site.GridKind.TheVariants.{Square, Hex}
-use Rattle.surf_manifest.specs.declared.error.ManifestError.{ManifestError}
-use Rattle.surf_manifest.specs.declared.error.ManifestError.TheVariants.{BadLine, BadOption}
-use Rattle.surf_manifest.specs.declared.line.BlockKind.{BlockKind}
-use Rattle.surf_manifest.specs.declared.line.BlockKind.TheVariants.{Rules, State, Colormap}
+use Rattle.surf_manifest_lines.specs.declared.error.ManifestError.{ManifestError}
+use Rattle.surf_manifest_lines.specs.declared.error.ManifestError.TheVariants.{BadLine, BadOption}
+use Rattle.surf_manifest_lines.specs.declared.line.BlockKind.{BlockKind}
+use Rattle.surf_manifest_lines.specs.declared.line.BlockKind.TheVariants.{Rules, State, Colormap}
 use Rattle.surf_text.specs.Bytes.{is_blank, is_filled, is_word, tokens_of, trimmed, before, after}
 use Rattle.surf_manifest.specs.Drafts.{HasRoom}
 use Rattle.surf_manifest.specs.Grammar.{line_fault, unless_fault}
-use Rattle.surf_manifest.specs.Item.{Item, Geometry, Wrap, Kept, Rule, Row, Colour, is_name, item_of, option_from, setting_of, geometry_of, wrap_of, bracketed_rule, rated_rule, rule_found, rule_from, rule_of_tokens, rate_of, rule_line_of}
+use Rattle.surf_manifest_lines.specs.Item.{Item, Geometry, Wrap, Kept, Rule, Row, Colour, is_name, item_of, option_from, setting_of, geometry_of, wrap_of, bracketed_rule, rated_rule, rule_found, rule_from, rule_of_tokens, rate_of, rule_line_of}
 use Rattle.surf_manifest.specs.Limits.{Held, Reached, holding_result, known_by, after_line, line_step}
-use Rattle.surf_manifest.specs.Line.{Line, Skipped, Opens, Closes, Includes, Unknown, Content, is_comment_sign, is_include, mark_of, line_of_text, line_of}
+use Rattle.surf_manifest_lines.specs.Line.{Line, Skipped, Opens, Closes, Includes, Unknown, Content, is_comment_sign, is_include, mark_of, line_of_text, line_of}
 use Rattle.surf_manifest.specs.Readings.{IsHeldWithin, IsCounted}
 use Rattle.surf_manifest.proofs.ReadingLemmas.{trim_shorter}
 

@@ -4,18 +4,19 @@ use Rattle.std.specs.List.{list_all, onto_first}
 use Rattle.std.proofs.Math.Nat.{mul-suc}
 use Rattle.std.proofs.lemmas.Bool.{and_parts, eqb-true, eqb-false, cases_Bool, ltb-false}
 use Rattle.std.proofs.lemmas.List.Folds.{list_all-append}
-use Rattle.surf_manifest.specs.declared.error.ManifestError.{ManifestError}
-use Rattle.surf_manifest.specs.declared.error.ManifestError.TheVariants as faults
-use Rattle.surf_manifest.specs.declared.error.Block.TheVariants as blocks
+use Rattle.surf_manifest_lines.specs.declared.error.ManifestError.{ManifestError}
+use Rattle.surf_manifest_lines.specs.declared.error.ManifestError.TheVariants as faults
+use Rattle.surf_manifest_lines.specs.declared.error.Block.TheVariants as blocks
 use Rattle.surf_text.specs.Bytes.{lines_of, lacks}
-use Rattle.surf_manifest.specs.Line.{Line, Skipped, Opens, Closes, Includes, Unknown, Content, line_of}
-use Rattle.surf_manifest.specs.Item.{Item, Geometry, Wrap, Kept, Rule, Row, Colour, is_name, item_of}
+use Rattle.surf_manifest_lines.specs.Line.{Line, Skipped, Opens, Closes, Includes, Unknown, Content, line_of}
+use Rattle.surf_manifest_lines.specs.Item.{Item, Geometry, Wrap, Kept, Rule, Row, Colour, is_name, item_of}
 use Rattle.surf_manifest.specs.Grammar.{ManifestText, Parts, Known, line_fault, item_fault, text_fault, unless_fault, manifest_from}
 use Rattle.surf_manifest.specs.Steps.{with_part, with_result, next, nothing, run_from}
-use Rattle.surf_manifest.specs.WellFormed.{is_option, is_colour, is_rule, are_colours, IsWellFormed, GivesWellFormed}
-use Rattle.surf_manifest.proofs.WellFormed.{both}
+use Rattle.surf_manifest_lines.specs.WellFormed.{is_option, is_colour, is_rule}
+use Rattle.surf_manifest.specs.WellFormed.{are_colours, IsWellFormed, GivesWellFormed}
+use Rattle.surf_manifest_lines.proofs.WellFormed.{both}
 use Rattle.surf_manifest.proofs.StepLemmas.{steps_read}
-use Rattle.surf_manifest.proofs.WellFormed.{LineHolds, line_holds, ItemHolds, ResultHolds, item_holds}
+use Rattle.surf_manifest_lines.proofs.WellFormed.{LineHolds, line_holds, ItemHolds, ResultHolds, item_holds}
 
 pub record Good (p : Parts) : Type 0 where
   pub options : list_all is_option p.options ≡ true

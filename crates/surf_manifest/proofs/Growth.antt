@@ -12,8 +12,8 @@ use Rattle.surf_rules.specs.Names.{text_of, with_text}
 use Rattle.surf_rules.specs.declared.rule.Rule.{Rule}
 use Rattle.surf_world.specs.Renamings.{RuleBelow}
 use Rattle.surf_world.specs.Worlds.{rule_of}
-use Rattle.surf_manifest.specs.Item.{is_name}
-use Rattle.surf_manifest.proofs.WellFormed.{both}
+use Rattle.surf_manifest_lines.specs.Item.{is_name}
+use Rattle.surf_manifest_lines.proofs.WellFormed.{both}
 use Rattle.surf_manifest.specs.Drafts.{IsGrown, named_rule, RulesBelow, NamesBelow}
 
 front_kept : (ts us : List (List ℕ)) (k : ℕ) → k < length ts → slice_get (ts ++ us) k ≡ slice_get ts k

@@ -1,8 +1,6 @@
 mod Worked
 pub mod StepLemmas
-pub mod WellFormed
 pub mod Good
-pub mod Values
 pub mod LimitLemmas
 pub mod Growth
 pub mod DraftLemmas

@@ -2,14 +2,14 @@
 use Rattle.std.proofs.Common.{ℕ, zero, suc, ◌≡◌, ◌+◌, ◌-◌, ◌⊎◌, inl, inr, List, [], ◌∷◌, ◌++◌, length, take, map, refl, ◌∙◌, ap, arith, not, ◌==◌, nat_lt, is_some, Option, Some, None, Result, Ok, Err, length-append, append_assoc}
 use Rattle.std.proofs.lemmas.List.{take_all, length-take-le}
 use Rattle.std.proofs.lemmas.Bool.{ltb-false, cases_lt}
-use Rattle.surf_manifest.specs.declared.error.ManifestError.{ManifestError}
-use Rattle.surf_manifest.specs.declared.error.ManifestError.TheVariants as faults
-use Rattle.surf_manifest.specs.declared.error.Block.TheVariants as blocks
-use Rattle.surf_manifest.specs.declared.line.BlockKind.{BlockKind}
-use Rattle.surf_manifest.specs.declared.line.BlockKind.TheVariants.{Rules, State, Colormap}
+use Rattle.surf_manifest_lines.specs.declared.error.ManifestError.{ManifestError}
+use Rattle.surf_manifest_lines.specs.declared.error.ManifestError.TheVariants as faults
+use Rattle.surf_manifest_lines.specs.declared.error.Block.TheVariants as blocks
+use Rattle.surf_manifest_lines.specs.declared.line.BlockKind.{BlockKind}
+use Rattle.surf_manifest_lines.specs.declared.line.BlockKind.TheVariants.{Rules, State, Colormap}
 use Rattle.surf_text.specs.Bytes.{lines_of}
-use Rattle.surf_manifest.specs.Line.{Line, Skipped, Opens, Closes, Includes, Unknown, Content, line_of}
-use Rattle.surf_manifest.specs.Item.{Item, Geometry, Wrap, Kept, Rule, Row, Colour, item_of}
+use Rattle.surf_manifest_lines.specs.Line.{Line, Skipped, Opens, Closes, Includes, Unknown, Content, line_of}
+use Rattle.surf_manifest_lines.specs.Item.{Item, Geometry, Wrap, Kept, Rule, Row, Colour, item_of}
 use Rattle.surf_manifest.specs.Grammar.{ManifestText, Parts, Known, open_fault, item_fault, line_fault, text_fault, unless_fault, manifest_from, finish, manifest_of}
 use Rattle.surf_manifest.specs.Steps.{with_part, with_result, next, nothing, run_from}
 use Rattle.surf_manifest.specs.Limits.{Held, held_of, with_names, holding, holding_result, reached, parts_held, known_by, counted, after_line, finished, read_on, at_start}

@@ -11,13 +11,13 @@ use Rattle.surf_rules.specs.declared.rule.Rule.{Rule}
 use Rattle.surf_world.specs.Renamings.{RuleBelow, renamed_rule}
 use Rattle.surf_world.specs.Worlds.{rule_of}
 use Rattle.surf_manifest.specs.Drafts.{IsGrown, named_rule, RulesBelow, NamesBelow}
-use Rattle.surf_manifest.specs.Item.{is_name}
+use Rattle.surf_manifest_lines.specs.Item.{is_name}
 use Rattle.surf_manifest.specs.declared.manifest.Manifest.TheInside.{Inside}
 use Rattle.surf_manifest.specs.Manifests.{IsManifest, text_by}
 use Rattle.surf_manifest.specs.Numbered.{IsNumbered}
-use Rattle.surf_manifest.specs.WellFormed.{is_rule, are_seconds}
+use Rattle.surf_manifest_lines.specs.WellFormed.{is_rule, are_seconds}
 use Rattle.surf_manifest.proofs.Growth.{all_head, all_tail, grown_by, names_kept, rules_kept, texts_with}
-use Rattle.surf_manifest.proofs.WellFormed.{both}
+use Rattle.surf_manifest_lines.proofs.WellFormed.{both}
 
 -- numbers in range stand for names
 pub text_good : (ts : List (List ℕ)) (k : ℕ) → list_all is_name ts ≡ true → k < length ts → is_name (text_of ts k) ≡ true

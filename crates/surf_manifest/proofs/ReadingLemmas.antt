@@ -3,17 +3,17 @@ use Rattle.std.proofs.Common.{ℕ, ◌≡◌, ◌+◌, ◌≤◌, List, [], ◌�
 use Rattle.std.specs.Str.{bytes_eq}
 use Rattle.std.proofs.lemmas.Bool.{cases_Bool}
 use Rattle.std.proofs.lemmas.Result.{MatchResult-weaker}
-use Rattle.surf_manifest.specs.declared.error.ManifestError.{ManifestError}
-use Rattle.surf_manifest.specs.declared.line.BlockKind.TheVariants.{Rules, State, Colormap}
-use Rattle.surf_manifest.specs.Answers.{Refuses}
+use Rattle.surf_manifest_lines.specs.declared.error.ManifestError.{ManifestError}
+use Rattle.surf_manifest_lines.specs.declared.line.BlockKind.TheVariants.{Rules, State, Colormap}
+use Rattle.surf_manifest_lines.specs.Answers.{Refuses}
 use Rattle.surf_text.specs.Bytes.{is_blank, tokens_of, trimmed, without_front, without_end, unless_last}
 use Rattle.surf_manifest.specs.Drafts.{HasRoom, HasRoomFor}
 use Rattle.surf_manifest.specs.Grammar.{item_fault, line_fault, unless_fault}
-use Rattle.surf_manifest.specs.Item.{item_of}
+use Rattle.surf_manifest_lines.specs.Item.{item_of}
 use Rattle.surf_manifest.specs.Limits.{Held, Reached, parts_held, known_by, holding_result, item_step, counted, after_line, line_step}
-use Rattle.surf_manifest.specs.Line.{Line, Skipped, Opens, Closes, Includes, Unknown, Content, is_comment_sign, is_include, mark_of, line_of_text, line_of}
+use Rattle.surf_manifest_lines.specs.Line.{Line, Skipped, Opens, Closes, Includes, Unknown, Content, is_comment_sign, is_include, mark_of, line_of_text, line_of}
 use Rattle.surf_manifest.proofs.RowLemmas.{refuses_by}
-use Rattle.surf_manifest.proofs.WellFormed.{front_shorter}
+use Rattle.surf_manifest_lines.proofs.WellFormed.{front_shorter}
 
 unless_ok : {A B : Type 0} (f : A → B) (o : Option ManifestError) (a b : A) → unless_fault o (Ok a) ≡ Ok b → unless_fault o (Ok (f a)) ≡ Ok (f b)
 unless_ok f None a b h = let e : a ≡ b = cc in ap (λ v. Ok (f v)) e

@@ -4,12 +4,12 @@ use Rattle.std.specs.List.{list_all}
 use Rattle.std.proofs.lemmas.List.{length-map, take_all}
 use Rattle.surf_rules.specs.Names.{text_of}
 use Rattle.surf_manifest.specs.declared.draft.Draft.{Draft}
-use Rattle.surf_manifest.specs.declared.error.ManifestError.{ManifestError}
-use Rattle.surf_manifest.specs.declared.error.ManifestError.TheVariants.{BadLine, BadRule, BadRate, Ragged, Include, BlockTwice, BadOption, Unclosed, MissingBlock, NoSites, TooManyRules, TooManySites, WrapSize, NoMemory}
-use Rattle.surf_manifest.specs.Answers.{Refuses}
+use Rattle.surf_manifest_lines.specs.declared.error.ManifestError.{ManifestError}
+use Rattle.surf_manifest_lines.specs.declared.error.ManifestError.TheVariants.{BadLine, BadRule, BadRate, Ragged, Include, BlockTwice, BadOption, Unclosed, MissingBlock, NoSites, TooManyRules, TooManySites, WrapSize, NoMemory}
+use Rattle.surf_manifest_lines.specs.Answers.{Refuses}
 use Rattle.surf_manifest.specs.Drafts.{held_by, IsDraft}
 use Rattle.surf_manifest.specs.Grammar.{row_fault}
-use Rattle.surf_manifest.specs.Item.{Item, is_name, row_of}
+use Rattle.surf_manifest_lines.specs.Item.{Item, is_name, row_of}
 use Rattle.surf_manifest.proofs.LimitLemmas.{take_nil}
 use Rattle.surf_manifest.specs.Limits.{Held, with_names, with_row, parts_held, item_step}
 

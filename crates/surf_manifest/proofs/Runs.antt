@@ -1,11 +1,11 @@
 -- One line more of the loop.
 use Rattle.std.proofs.Common.{ℕ, ◌≡◌, ◌+◌, ◌-◌, ◌<◌, ◌≤◌, List, [], ◌∷◌, map, refl, sym, ◌∙◌, ap, subst, Option, Some, None, Result, Ok, Err, length, arith}
-use Rattle.surf_manifest.specs.declared.error.ManifestError.{ManifestError}
-use Rattle.surf_manifest.specs.Answers.{Refuses}
+use Rattle.surf_manifest_lines.specs.declared.error.ManifestError.{ManifestError}
+use Rattle.surf_manifest_lines.specs.Answers.{Refuses}
 use Rattle.surf_text.specs.Bytes.{lines_of}
 use Rattle.surf_manifest.specs.Grammar.{ManifestText, unless_fault, line_fault, manifest_of}
 use Rattle.surf_manifest.specs.Limits.{Reached, known_by, after_line, after_lines, line_step, finished, read_on, at_start}
-use Rattle.surf_manifest.specs.Line.{Line, line_of}
+use Rattle.surf_manifest_lines.specs.Line.{Line, line_of}
 use Rattle.surf_manifest.specs.Readings.{IsCounted, IsHeldWithin}
 use Rattle.surf_manifest.proofs.Counts.{counted_line}
 use Rattle.surf_manifest.proofs.LimitLemmas.{reads_on}

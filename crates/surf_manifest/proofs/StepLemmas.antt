@@ -5,10 +5,10 @@ use Rattle.std.proofs.lemmas.List.Elements.{filter_map-append}
 use Rattle.surf_lattice.specs.declared.site.GridKind.{GridKind}
 use Rattle.surf_lattice.specs.declared.site.GridKind.TheVariants.{Square}
 use Rattle.std.proofs.lemmas.Bool.{ne_eqb}
-use Rattle.surf_manifest.specs.declared.error.ManifestError.{ManifestError}
+use Rattle.surf_manifest_lines.specs.declared.error.ManifestError.{ManifestError}
 use Rattle.surf_text.specs.Bytes.{lines_of}
-use Rattle.surf_manifest.specs.Line.{Line, Skipped, Opens, Closes, Includes, Unknown, Content, line_of}
-use Rattle.surf_manifest.specs.Item.{Item, Geometry, Wrap, Kept, Rule, Row, Colour, item_of}
+use Rattle.surf_manifest_lines.specs.Line.{Line, Skipped, Opens, Closes, Includes, Unknown, Content, line_of}
+use Rattle.surf_manifest_lines.specs.Item.{Item, Geometry, Wrap, Kept, Rule, Row, Colour, item_of}
 use Rattle.surf_manifest.specs.Grammar.{known, parts_of, items, block_of, with_item, kind_in, wrap_in, kept_in, rule_in, row_in, colour_in, width_of, joined, read_from, line_number}
 use Rattle.surf_manifest.specs.Steps.{with_part, with_result, next, run_from, StepsRead}
 

@@ -1,9 +1,9 @@
 -- What some texts mean, by computing.
 use Rattle.std.proofs.Common.{ℕ, ◌≡◌, List, [], ◌∷◌, ◌++◌, refl, codes, Ok, Err, None, Some, false, take}
 use Rattle.surf_lattice.specs.declared.site.GridKind.TheVariants.{Square}
-use Rattle.surf_manifest.specs.declared.error.ManifestError.{ManifestError}
-use Rattle.surf_manifest.specs.declared.error.ManifestError.TheVariants as faults
-use Rattle.surf_manifest.specs.declared.error.Block.TheVariants as blocks
+use Rattle.surf_manifest_lines.specs.declared.error.ManifestError.{ManifestError}
+use Rattle.surf_manifest_lines.specs.declared.error.ManifestError.TheVariants as faults
+use Rattle.surf_manifest_lines.specs.declared.error.Block.TheVariants as blocks
 use Rattle.surf_text.specs.Bytes.{ended}
 use Rattle.surf_manifest.specs.Grammar.{manifest_of}
 

@@ -7,9 +7,9 @@ use Rattle.surf_world.specs.Renamings.{renamed_rule, RuleBelow}
 use Rattle.surf_world.specs.Systems as systems
 use Rattle.surf_world.specs.Worlds.{rule_of}
 use Rattle.surf_manifest.specs.declared.draft.Draft.{Draft}
-use Rattle.surf_manifest.specs.Item.{is_name}
+use Rattle.surf_manifest_lines.specs.Item.{is_name}
 use Rattle.surf_manifest.specs.Limits.{Held}
-use Rattle.surf_manifest.specs.Line.{Line, Skipped, Opens, Closes, Includes, Unknown, Content}
+use Rattle.surf_manifest_lines.specs.Line.{Line, Skipped, Opens, Closes, Includes, Unknown, Content}
 
 -- a list of texts became at most n texts longer, and keeps those that it had
 pub record IsGrown (n : ℕ) (old new : List (List ℕ)) : Type 0 where

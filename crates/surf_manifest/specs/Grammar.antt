@@ -5,15 +5,15 @@ use Rattle.surf_lattice.specs.declared.site.GridKind.{GridKind}
 use Rattle.surf_lattice.specs.declared.site.GridKind.TheVariants.{Square}
 use Rattle.surf_world.specs.Systems.{System}
 use Rattle.surf_world.specs.Systems as systems
-use Rattle.surf_manifest.specs.declared.options.OptionLine.{OptionLine}
-use Rattle.surf_manifest.specs.declared.error.ManifestError.{ManifestError}
-use Rattle.surf_manifest.specs.declared.error.ManifestError.TheVariants as faults
-use Rattle.surf_manifest.specs.declared.error.Block.TheVariants as blocks
+use Rattle.surf_manifest_lines.specs.declared.options.OptionLine.{OptionLine}
+use Rattle.surf_manifest_lines.specs.declared.error.ManifestError.{ManifestError}
+use Rattle.surf_manifest_lines.specs.declared.error.ManifestError.TheVariants as faults
+use Rattle.surf_manifest_lines.specs.declared.error.Block.TheVariants as blocks
 use Rattle.surf_text.specs.Bytes.{lines_of}
-use Rattle.surf_manifest.specs.declared.line.BlockKind.{BlockKind}
-use Rattle.surf_manifest.specs.declared.line.BlockKind.TheVariants.{Rules, State, Colormap}
-use Rattle.surf_manifest.specs.Line.{is_block, Line, Skipped, Opens, Closes, Includes, Unknown, Content, line_of}
-use Rattle.surf_manifest.specs.Item.{Item, Geometry, Wrap, Kept, Rule, Row, Colour, item_of}
+use Rattle.surf_manifest_lines.specs.declared.line.BlockKind.{BlockKind}
+use Rattle.surf_manifest_lines.specs.declared.line.BlockKind.TheVariants.{Rules, State, Colormap}
+use Rattle.surf_manifest_lines.specs.Line.{is_block, Line, Skipped, Opens, Closes, Includes, Unknown, Content, line_of}
+use Rattle.surf_manifest_lines.specs.Item.{Item, Geometry, Wrap, Kept, Rule, Row, Colour, item_of}
 
 -- a system with the options that are kept and the lines of its colormap
 pub record ManifestText : Type 0 where

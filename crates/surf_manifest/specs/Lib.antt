@@ -1,14 +1,8 @@
-pub mod Line
-pub mod Item
 pub mod Grammar
 pub mod Steps
 pub mod Limits
 pub mod WellFormed
-pub mod Answers
 pub mod Numbered
-pub mod Kinds
-pub mod Rates
-pub mod Said
 pub mod Drafts
 pub mod Readings
 pub mod Manifests

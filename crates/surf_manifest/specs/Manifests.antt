@@ -7,7 +7,7 @@ use Rattle.surf_rules.specs.Names.{text_of}
 use Rattle.surf_manifest.specs.declared.manifest.Manifest.TheInside.{Inside}
 use Rattle.surf_manifest.specs.Drafts.{named_rule, RulesBelow, NamesBelow}
 use Rattle.surf_manifest.specs.Grammar.{ManifestText}
-use Rattle.surf_manifest.specs.Item.{is_name}
+use Rattle.surf_manifest_lines.specs.Item.{is_name}
 use Rattle.surf_manifest.specs.Numbered.{NamedManifest}
 use Rattle.surf_manifest.specs.WellFormed.{IsWellFormed}
 

@@ -4,11 +4,11 @@ use Rattle.std.specs.Option.{option_to_list}
 use Rattle.surf_rules.specs.Names.{with_text}
 use Rattle.surf_text.specs.Bytes.{lines_of}
 use Rattle.surf_world.specs.Systems as systems
-use Rattle.surf_manifest.specs.declared.error.ManifestError.{ManifestError}
-use Rattle.surf_manifest.specs.declared.line.BlockKind.{BlockKind}
+use Rattle.surf_manifest_lines.specs.declared.error.ManifestError.{ManifestError}
+use Rattle.surf_manifest_lines.specs.declared.line.BlockKind.{BlockKind}
 use Rattle.surf_manifest.specs.Grammar.{block_of, line_number}
-use Rattle.surf_manifest.specs.Item.{Item, Geometry, Wrap, Kept, Rule, Row, Colour, item_of}
-use Rattle.surf_manifest.specs.Line.{Line, Skipped, Opens, Closes, Includes, Unknown, Content, line_of}
+use Rattle.surf_manifest_lines.specs.Item.{Item, Geometry, Wrap, Kept, Rule, Row, Colour, item_of}
+use Rattle.surf_manifest_lines.specs.Line.{Line, Skipped, Opens, Closes, Includes, Unknown, Content, line_of}
 
 abbrev pub rule_names : systems.Rule (List ℕ) → List (List ℕ)
 rule_names r = r.left ∷ (option_to_list r.right ++ r.left_after ∷ option_to_list r.right_after)

@@ -1,11 +1,11 @@
 -- The reader's step: what it keeps of the lines so far.
 use Rattle.std.specs.Prelude.{ℕ, ◌+◌, ◌≡◌, false, ◌||◌, ◌==◌, List, [], ◌∷◌, ◌++◌, length, map, Some, None, Result, Ok, Err, if◌then◌else◌}
 use Rattle.surf_lattice.specs.declared.site.GridKind.TheVariants.{Square}
-use Rattle.surf_manifest.specs.declared.error.ManifestError.{ManifestError}
+use Rattle.surf_manifest_lines.specs.declared.error.ManifestError.{ManifestError}
 use Rattle.surf_text.specs.Bytes.{lines_of}
-use Rattle.surf_manifest.specs.declared.line.BlockKind.TheVariants.{Rules, State, Colormap}
-use Rattle.surf_manifest.specs.Line.{is_block, Line, Skipped, Opens, Closes, Includes, Unknown, Content, line_of}
-use Rattle.surf_manifest.specs.Item.{Item, Geometry, Wrap, Kept, Rule, Row, Colour, item_of}
+use Rattle.surf_manifest_lines.specs.declared.line.BlockKind.TheVariants.{Rules, State, Colormap}
+use Rattle.surf_manifest_lines.specs.Line.{is_block, Line, Skipped, Opens, Closes, Includes, Unknown, Content, line_of}
+use Rattle.surf_manifest_lines.specs.Item.{Item, Geometry, Wrap, Kept, Rule, Row, Colour, item_of}
 use Rattle.surf_manifest.specs.Grammar.{ManifestText, Parts, Known, line_fault, finish, unless_fault, manifest_of}
 
 abbrev pub with_part : Parts → Item → Parts

@@ -4,7 +4,7 @@ ghost use Rattle.std.specs.Prelude.{◌*◌, ◌-◌, ◌<◌, ◌^◌, ◌≡�
 ghost use Rattle.surf_lattice.specs.AnyGrid.{grid_of};
 ghost use Rattle.surf_lattice.specs.Grids.{IsInside, place};
 ghost use Rattle.surf_manifest.specs.Drafts.{NamesBelow, RulesBelow, named_rule};
-ghost use Rattle.surf_manifest.specs.Item.{is_name};
+ghost use Rattle.surf_manifest_lines.specs.Item.{is_name};
 ghost use Rattle.surf_manifest.specs.Numbered.{with_site};
 ghost use Rattle.surf_rules.specs.Names.{text_of, with_text};
 

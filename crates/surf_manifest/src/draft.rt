@@ -1,22 +1,20 @@
 // The parts of a manifest that were read so far.
 ghost use Rattle.std.specs.Prelude.{◌≡◌, ◌<◌, ◌^◌, IfOk, MatchResult, length, true};
-ghost use Rattle.surf_manifest.specs.Answers.{Refuses};
+ghost use Rattle.surf_manifest_lines.specs.Answers.{Refuses};
 ghost use Rattle.surf_manifest.specs.Drafts.{HasRoom, IsDraft, held_by};
-ghost use Rattle.surf_manifest.specs.Item.{Colour, Kept, item_of, option_of, rule_line_of};
+ghost use Rattle.surf_manifest_lines.specs.Item.{Colour, Kept, item_of, option_of, rule_line_of};
 ghost use Rattle.surf_manifest.specs.Limits.{at_start, holding, item_step, with_rule};
-ghost use Rattle.surf_manifest.specs.Said.{rule_of_line};
-ghost use Rattle.surf_manifest.specs.WellFormed.{is_rule};
+ghost use Rattle.surf_manifest_lines.specs.Said.{rule_of_line};
+ghost use Rattle.surf_manifest_lines.specs.WellFormed.{is_rule};
 
-use crate::error::ManifestError;
 use crate::interner::Interner;
-use crate::line::BlockKind;
 use crate::numbering::numbered_rule;
-use crate::option_lines::{Setting, option_line};
-use crate::options::OptionLine;
-use crate::rule_lines::{RuleLine, rule_line};
 use std::alloc::Global;
 use surf_base::{NoMemory, Text};
 use surf_lattice::GridKind;
+use surf_manifest_lines::{
+    BlockKind, ManifestError, OptionLine, RuleLine, Setting, option_line, rule_line,
+};
 use surf_rules::Rule;
 
 /// The parts of a manifest that were read so far. Rules and sites beyond the limits are counted

@@ -8,26 +8,16 @@
 
 mod assembly;
 mod draft;
-mod error;
 mod interner;
 mod laws;
-mod line;
 mod manifest;
 mod numbering;
-mod option_lines;
-mod options;
-mod rates;
 mod reader;
 mod reading;
 mod rows;
-mod rule_lines;
-mod words;
 mod worlds;
 
-pub use error::{Block, ManifestError};
 pub use laws::{read_is_well_formed, steps_are_grammar};
-pub use line::BlockKind;
 pub use manifest::Manifest;
-pub use options::OptionLine;
 pub use reader::read_manifest;
-pub use words::is_name_token;
+pub use surf_manifest_lines::{Block, ManifestError, OptionLine};

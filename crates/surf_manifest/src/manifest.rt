@@ -5,10 +5,10 @@ ghost use Rattle.surf_manifest.specs.Drafts.{NamesBelow, RulesBelow, named_rule}
 ghost use Rattle.surf_manifest.specs.WellFormed.{IsWellFormed};
 ghost use Rattle.surf_rules.specs.Names.{text_of};
 
-use crate::options::OptionLine;
 use std::marker::Model;
 use surf_base::Text;
 use surf_lattice::{Grid, GridKind};
+use surf_manifest_lines::OptionLine;
 use surf_rules::{Names, Rule};
 
 /// A well-formed manifest: a system over the numbers of names, options that are kept as text, and

@@ -2,16 +2,16 @@
 ghost use Rattle.std.specs.List.{list_all};
 ghost use Rattle.std.specs.Prelude.{◌&&◌, ◌-◌, ◌<◌, ◌≡◌, ◌^◌, ◌∷◌, [], IfOk, Some, length, slice_get, true};
 ghost use Rattle.surf_manifest.specs.Drafts.{IsGrown, named_rule};
-ghost use Rattle.surf_manifest.specs.Item.{is_name};
+ghost use Rattle.surf_manifest_lines.specs.Item.{is_name};
 ghost use Rattle.surf_manifest.specs.Naming.{rule_names, with_texts};
-ghost use Rattle.surf_manifest.specs.Said.{rule_of_line};
-ghost use Rattle.surf_manifest.specs.WellFormed.{is_rule};
+ghost use Rattle.surf_manifest_lines.specs.Said.{rule_of_line};
+ghost use Rattle.surf_manifest_lines.specs.WellFormed.{is_rule};
 ghost use Rattle.surf_world.specs.Renamings.{RuleBelow};
 ghost use Rattle.surf_world.specs.Worlds.{rule_of};
 
 use crate::interner::Interner;
-use crate::rule_lines::{RuleLine, Sides};
 use surf_base::NoMemory;
+use surf_manifest_lines::{RuleLine, Sides};
 use surf_rules::Rule;
 
 fn intern_two(names: &mut Interner, a: &[u8], b: &[u8]) -> Result<(u32, u32), NoMemory>

@@ -1,18 +1,18 @@
 // The loop over the lines of a text.
 ghost use Rattle.std.specs.Prelude.{◌≡◌, ◌≤◌, IfErr, IfOk, Ok, length, map};
 ghost use Rattle.surf_text.specs.Bytes.{lines_of};
-ghost use Rattle.surf_manifest.specs.Answers.{Refuses};
+ghost use Rattle.surf_manifest_lines.specs.Answers.{Refuses};
 ghost use Rattle.surf_manifest.specs.Drafts.{IsDraft};
 ghost use Rattle.surf_manifest.specs.Grammar.{manifest_of};
 ghost use Rattle.surf_manifest.specs.Limits.{after_lines, at_start, finished};
-ghost use Rattle.surf_manifest.specs.Line.{line_of};
+ghost use Rattle.surf_manifest_lines.specs.Line.{line_of};
 ghost use Rattle.surf_manifest.specs.Naming.{names_in};
 ghost use Rattle.surf_manifest.specs.Readings.{IsCounted, reached_by};
 
-use crate::error::ManifestError;
 use crate::manifest::Manifest;
 use crate::reading::Reading;
 use std::alloc::Global;
+use surf_manifest_lines::ManifestError;
 use surf_text::Lines;
 
 // Reads all lines, up to the first fault.

@@ -1,21 +1,20 @@
 // The reader's state between two lines.
 ghost use Rattle.std.specs.Prelude.{◌≡◌, ◌<◌, ◌≤◌, ◌^◌, IfErr, IfOk, MatchOption, MatchResult, None, Some, if◌then◌else◌, length};
-ghost use Rattle.surf_manifest.specs.Answers.{Refuses};
+ghost use Rattle.surf_manifest_lines.specs.Answers.{Refuses};
 ghost use Rattle.surf_manifest.specs.Drafts.{HasRoom, HasRoomFor, IsDraft};
 ghost use Rattle.surf_manifest.specs.Grammar.{ManifestText, has_block};
-ghost use Rattle.surf_manifest.specs.Kinds.{line_of_kind};
+ghost use Rattle.surf_manifest_lines.specs.Kinds.{line_of_kind};
 ghost use Rattle.surf_manifest.specs.Limits.{at_start, counted, end_fault, finished, known_by, line_step, opened_block};
-ghost use Rattle.surf_manifest.specs.Line.{Closes, Opens, line_of};
+ghost use Rattle.surf_manifest_lines.specs.Line.{Closes, Opens, line_of};
 ghost use Rattle.surf_manifest.specs.Manifests.{lines_in};
 ghost use Rattle.surf_manifest.specs.Readings.{reached_by};
 ghost use Rattle.surf_manifest.specs.WellFormed.{IsWellFormed};
 
 use crate::draft::{Draft, RULE_LIMIT, SITE_LIMIT};
-use crate::error::{Block, ManifestError};
-use crate::line::{BlockKind, LineKind, kind_of};
 use crate::manifest::Manifest;
 use std::alloc::Global;
 use surf_base::Text;
+use surf_manifest_lines::{Block, BlockKind, LineKind, ManifestError, kind_of};
 
 /// What was read so far, and where the next line stands.
 #[derive(Drop)]

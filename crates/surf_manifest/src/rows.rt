@@ -2,16 +2,15 @@
 ghost use Rattle.std.specs.List.{list_all};
 ghost use Rattle.std.specs.Prelude.{◌≡◌, ◌+◌, ◌<◌, ◌^◌, IfErr, IfNone, IfOk, IfSome, MatchResult, Some, [], ◌∷◌, length, slice_get, true};
 ghost use Rattle.surf_rules.specs.Names.{text_of};
-ghost use Rattle.surf_manifest.specs.Answers.{Refuses};
+ghost use Rattle.surf_manifest_lines.specs.Answers.{Refuses};
 ghost use Rattle.surf_text.specs.Bytes.{tokens_of};
 ghost use Rattle.surf_manifest.specs.Drafts.{IsDraft, held_by};
-ghost use Rattle.surf_manifest.specs.Item.{is_name, row_of};
+ghost use Rattle.surf_manifest_lines.specs.Item.{is_name, row_of};
 ghost use Rattle.surf_manifest.specs.Limits.{item_step, with_names, with_row};
 
 use crate::draft::{Draft, SITE_LIMIT};
-use crate::error::ManifestError;
-use crate::words::is_name_token;
 use surf_base::NoMemory;
+use surf_manifest_lines::{ManifestError, is_name_token};
 use surf_text::{is_blank_byte, next_token};
 
 // The first token of a row, and what follows it.

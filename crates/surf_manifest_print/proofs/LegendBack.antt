@@ -13,11 +13,12 @@ use Rattle.surf_lattice.specs.declared.site.GridKind.TheVariants.{Square, Hex}
 use Rattle.surf_lattice.specs.Grids.{site_from}
 use Rattle.surf_world.specs.Systems as systems
 use Rattle.surf_text.specs.Bytes.{is_blank, is_filled, is_word, lacks, spaced, rows_of}
-use Rattle.surf_manifest.specs.Line.{Skipped, Content, line_of}
-use Rattle.surf_manifest.specs.Item.{is_name}
-use Rattle.surf_manifest.specs.declared.options.OptionLine.{OptionLine}
+use Rattle.surf_manifest_lines.specs.Line.{Skipped, Content, line_of}
+use Rattle.surf_manifest_lines.specs.Item.{is_name}
+use Rattle.surf_manifest_lines.specs.declared.options.OptionLine.{OptionLine}
 use Rattle.surf_manifest.specs.Grammar.{ManifestText}
-use Rattle.surf_manifest.specs.WellFormed.{IsWellFormed, is_option, is_rule, is_colour, are_colours}
+use Rattle.surf_manifest_lines.specs.WellFormed.{is_option, is_rule, is_colour}
+use Rattle.surf_manifest.specs.WellFormed.{IsWellFormed, are_colours}
 use Rattle.surf_manifest_print.specs.declared.legend.Place.{Place}
 use Rattle.surf_manifest_print.specs.declared.legend_line.LegendLine.{LegendLine}
 use Rattle.surf_manifest_print.specs.declared.legend_line.LegendLine.TheVariants.{Other, Input, Output, Events, Faulty}

@@ -8,11 +8,11 @@ use Rattle.std.proofs.lemmas.Slice.Eq.{bytes_eq-Decides}
 use Rattle.std.proofs.lemmas.List.Folds.{list_all-append}
 use Rattle.surf_world.specs.Systems as systems
 use Rattle.surf_text.specs.Bytes.{is_filled, is_plain, is_word, is_blank, lacks, after, trimmed, without_front, without_end, tokens_of, spaced}
-use Rattle.surf_manifest.specs.Line.{Skipped, Content, line_of, is_comment_sign}
-use Rattle.surf_manifest.specs.declared.line.BlockKind.TheVariants.{Rules, State}
-use Rattle.surf_manifest.specs.declared.options.OptionLine.{OptionLine}
-use Rattle.surf_manifest.specs.Item.{Kept, Rule, Row, is_name, item_of, option_of, option_from, rule_line_of, bracketed_rule, rated_rule, rule_from, rate_of}
-use Rattle.surf_manifest.specs.WellFormed.{begins_content, is_text, is_option, is_colour, are_seconds}
+use Rattle.surf_manifest_lines.specs.Line.{Skipped, Content, line_of, is_comment_sign}
+use Rattle.surf_manifest_lines.specs.declared.line.BlockKind.TheVariants.{Rules, State}
+use Rattle.surf_manifest_lines.specs.declared.options.OptionLine.{OptionLine}
+use Rattle.surf_manifest_lines.specs.Item.{Kept, Rule, Row, is_name, item_of, option_of, option_from, rule_line_of, bracketed_rule, rated_rule, rule_from, rate_of}
+use Rattle.surf_manifest_lines.specs.WellFormed.{begins_content, is_text, is_option, is_colour, are_seconds}
 use Rattle.surf_manifest_print.specs.declared.legend.Place.{Place}
 use Rattle.surf_manifest_print.specs.Legends.{is_place}
 use Rattle.surf_manifest_print.specs.Prints.{six_digits, option_text, rate_text, fraction_text, rule_text, rule_tokens, place_text, events_text}

@@ -7,7 +7,7 @@ use Rattle.std.proofs.lemmas.Bool.{and_parts, le-leb, leb-true, ne_eqb, eqb-true
 use Rattle.std.proofs.lemmas.List.Folds.{list_all-append}
 use Rattle.surf_base.specs.Decimal.{value_from}
 use Rattle.surf_text.specs.Bytes.{is_filled, is_plain, is_word, lacks, after, without_end, unless_last}
-use Rattle.surf_manifest.specs.Item.{millionths, rate_parts, rate_of}
+use Rattle.surf_manifest_lines.specs.Item.{millionths, rate_parts, rate_of}
 use Rattle.surf_manifest_print.specs.Prints.{six_digits, rate_text}
 use Rattle.surf_manifest_print.proofs.Texts.{both, before_more, after_more}
 

@@ -6,17 +6,17 @@ use Rattle.std.proofs.lemmas.Bool.{and_parts, eq-eqb, leb-true}
 use Rattle.std.proofs.lemmas.List.{length-take-le, take-append-drop}
 use Rattle.std.proofs.lemmas.List.Folds.{list_all-append}
 use Rattle.surf_world.specs.Systems as systems
-use Rattle.surf_manifest.specs.declared.error.ManifestError.{ManifestError}
-use Rattle.surf_manifest.specs.declared.error.ManifestError.TheVariants.{Ragged}
+use Rattle.surf_manifest_lines.specs.declared.error.ManifestError.{ManifestError}
+use Rattle.surf_manifest_lines.specs.declared.error.ManifestError.TheVariants.{Ragged}
 use Rattle.surf_text.specs.Bytes.{lines_of, lacks, ended, spaced}
-use Rattle.surf_manifest.specs.Line.{Line, Skipped, Content, line_of}
-use Rattle.surf_manifest.specs.declared.line.BlockKind.TheVariants.{Rules, State, Colormap}
-use Rattle.surf_manifest.specs.declared.options.OptionLine.{OptionLine}
-use Rattle.surf_manifest.specs.Item.{Item, Kept, Rule, Row, Colour, is_name, item_of}
+use Rattle.surf_manifest_lines.specs.Line.{Line, Skipped, Content, line_of}
+use Rattle.surf_manifest_lines.specs.declared.line.BlockKind.TheVariants.{Rules, State, Colormap}
+use Rattle.surf_manifest_lines.specs.declared.options.OptionLine.{OptionLine}
+use Rattle.surf_manifest_lines.specs.Item.{Item, Kept, Rule, Row, Colour, is_name, item_of}
 use Rattle.surf_manifest.specs.Grammar.{ManifestText, Known, line_fault, item_fault, row_fault, unless_fault}
 use Rattle.surf_manifest.specs.Steps.{with_part, with_result, next, run_from}
 use Rattle.surf_text.specs.Bytes.{rows_of}
-use Rattle.surf_manifest.specs.WellFormed.{is_option, is_colour, is_rule}
+use Rattle.surf_manifest_lines.specs.WellFormed.{is_option, is_colour, is_rule}
 use Rattle.surf_manifest_print.specs.declared.legend.Place.{Place}
 use Rattle.surf_manifest_print.specs.Legends.{LegendText, is_place, IsLegend}
 use Rattle.surf_manifest_print.specs.Prints.{option_text, rule_text, place_text, legend_lines, events_text}

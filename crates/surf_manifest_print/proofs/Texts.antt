@@ -4,8 +4,8 @@ use Rattle.std.specs.List.{list_all, slice_split}
 use Rattle.std.proofs.lemmas.Bool.{and_parts, not-true, ne_eqb, leb-true}
 use Rattle.std.proofs.lemmas.List.Folds.{list_all-append}
 use Rattle.surf_text.specs.Bytes.{lines_of, is_blank, is_filled, tokens_of, without_front, without_end, unless_last, before, after, is_plain, is_word, lacks, ended, spaced}
-use Rattle.surf_manifest.specs.Line.{Skipped, Content, line_of, line_of_text, mark_of, is_comment_sign}
-use Rattle.surf_manifest.specs.WellFormed.{begins_content}
+use Rattle.surf_manifest_lines.specs.Line.{Skipped, Content, line_of, line_of_text, mark_of, is_comment_sign}
+use Rattle.surf_manifest_lines.specs.WellFormed.{begins_content}
 
 pub both : (a b : Bool) → a ≡ true → b ≡ true → (a && b) ≡ true
 both a b p q = rw (p, q) refl

@@ -6,10 +6,10 @@ use Rattle.surf_lattice.specs.declared.site.GridKind.{GridKind}
 use Rattle.surf_lattice.specs.declared.site.GridKind.TheVariants.{Square, Hex}
 use Rattle.surf_world.specs.Systems as systems
 use Rattle.surf_text.specs.Bytes.{spaced}
-use Rattle.surf_manifest.specs.Line.{Opens, Closes}
-use Rattle.surf_manifest.specs.declared.line.BlockKind.TheVariants.{Rules, State, Colormap}
-use Rattle.surf_manifest.specs.declared.options.OptionLine.{OptionLine}
-use Rattle.surf_manifest.specs.Item.{Geometry, Wrap, is_name}
+use Rattle.surf_manifest_lines.specs.Line.{Opens, Closes}
+use Rattle.surf_manifest_lines.specs.declared.line.BlockKind.TheVariants.{Rules, State, Colormap}
+use Rattle.surf_manifest_lines.specs.declared.options.OptionLine.{OptionLine}
+use Rattle.surf_manifest_lines.specs.Item.{Geometry, Wrap, is_name}
 use Rattle.surf_manifest.specs.Grammar.{ManifestText, Parts, Known, finish, manifest_from, manifest_of}
 use Rattle.surf_manifest.specs.Steps.{nothing}
 use Rattle.surf_text.specs.Bytes.{rows_of}
@@ -19,7 +19,7 @@ use Rattle.surf_manifest_print.specs.Prints.{option_text, rule_text, geometry_te
 use Rattle.surf_manifest_print.proofs.Segments.{run_texts, at, past, up, up_is, split, step_line, step_item, row_step, run_legend, legend_end, run_options, run_rules, run_colours, run_rows}
 use Rattle.surf_manifest.proofs.StepLemmas.{steps_read}
 use Rattle.surf_manifest.proofs.Good.{gives_well_formed}
-use Rattle.surf_manifest.specs.declared.error.ManifestError.{ManifestError}
+use Rattle.surf_manifest_lines.specs.declared.error.ManifestError.{ManifestError}
 
 pub record FitsLimits (p : Parts) : Type 0 where
   pub height : 1 ≤ p.height

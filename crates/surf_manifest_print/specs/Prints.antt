@@ -5,8 +5,8 @@ use Rattle.surf_lattice.specs.declared.site.Site.{Site}
 use Rattle.surf_lattice.specs.declared.site.GridKind.{GridKind}
 use Rattle.surf_lattice.specs.declared.site.GridKind.TheVariants.{Square, Hex}
 use Rattle.surf_world.specs.Systems as systems
-use Rattle.surf_manifest.specs.declared.error.ManifestError.{ManifestError}
-use Rattle.surf_manifest.specs.declared.options.OptionLine.{OptionLine}
+use Rattle.surf_manifest_lines.specs.declared.error.ManifestError.{ManifestError}
+use Rattle.surf_manifest_lines.specs.declared.options.OptionLine.{OptionLine}
 use Rattle.surf_text.specs.Bytes.{ended, spaced, rows_of, without_end, is_filled}
 use Rattle.surf_manifest.specs.Grammar.{ManifestText, manifest_of}
 use Rattle.surf_manifest.specs.WellFormed.{IsWellFormed}

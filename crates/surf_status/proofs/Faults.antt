@@ -1,10 +1,10 @@
 -- How a command ends over an input whose manifest or trace has a fault.
 use Rattle.std.proofs.Common.{◌≡◌, List, Result, Err}
 use Rattle.surf_world.specs.declared.event.Event.{Event}
-use Rattle.surf_manifest.specs.Answers as manifests
+use Rattle.surf_manifest_lines.specs.Answers as manifests
 use Rattle.surf_manifest.specs.Grammar.{ManifestText}
-use Rattle.surf_manifest.specs.declared.error.ManifestError.{ManifestError}
-use Rattle.surf_manifest.specs.declared.error.ManifestError.TheVariants as faults
+use Rattle.surf_manifest_lines.specs.declared.error.ManifestError.{ManifestError}
+use Rattle.surf_manifest_lines.specs.declared.error.ManifestError.TheVariants as faults
 use Rattle.surf_trace.specs.TraceTexts.{Refuses}
 use Rattle.surf_trace.specs.declared.error.TraceError.{TraceError}
 use Rattle.surf_trace.specs.declared.error.TraceError.TheVariants as traces

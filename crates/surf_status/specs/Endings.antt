@@ -2,16 +2,16 @@
 use Rattle.std.specs.Prelude.{Result, Ok, Err}
 use Rattle.surf_status.specs.declared.status.Status.{Status}
 use Rattle.surf_status.specs.declared.status.Status.TheVariants.{Done, Refused, NotEnabled, WriteFault, NoMemory}
-use Rattle.surf_manifest.specs.declared.error.ManifestError.{ManifestError}
-use Rattle.surf_manifest.specs.declared.error.ManifestError.TheVariants as faults
+use Rattle.surf_manifest_lines.specs.declared.error.ManifestError.{ManifestError}
+use Rattle.surf_manifest_lines.specs.declared.error.ManifestError.TheVariants as faults
 use Rattle.surf_trace.specs.declared.error.TraceError.{TraceError}
 use Rattle.surf_trace.specs.declared.error.TraceError.TheVariants as traces
 use Rattle.surf_trace.specs.declared.error.ObserveError.{ObserveError}
 use Rattle.surf_trace.specs.declared.error.ObserveError.TheVariants as observes
 use Rattle.surf_manifest_print.specs.declared.legend_error.LegendError.{LegendError}
 use Rattle.surf_manifest_print.specs.declared.legend_error.LegendError.TheVariants as legends
-use Rattle.surf_circuit.specs.declared.inputs.SetError.{SetError}
-use Rattle.surf_circuit.specs.declared.inputs.SetError.TheVariants as sets
+use Rattle.surf_inputs.specs.declared.inputs.SetError.{SetError}
+use Rattle.surf_inputs.specs.declared.inputs.SetError.TheVariants as sets
 use Rattle.surf_blif.specs.declared.error.BlifError.{BlifError}
 use Rattle.surf_blif.specs.declared.error.BlifError.TheVariants as blifs
 use Rattle.surf_logic.specs.declared.values.EvalError.{EvalError}

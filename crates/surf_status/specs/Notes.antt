@@ -4,10 +4,10 @@ use Rattle.std.specs.Fmt.{decimal}
 use Rattle.std.specs.Io.KnownBytes.{Appends}
 use Rattle.surf_base.specs.Causes.{Rose}
 use Rattle.surf_base.specs.Known.{AppendsFront}
-use Rattle.surf_manifest.specs.declared.error.ManifestError.{ManifestError}
-use Rattle.surf_manifest.specs.declared.error.ManifestError.TheVariants as faults
-use Rattle.surf_manifest.specs.declared.error.Block.{Block}
-use Rattle.surf_manifest.specs.declared.error.Block.TheVariants as blocks
+use Rattle.surf_manifest_lines.specs.declared.error.ManifestError.{ManifestError}
+use Rattle.surf_manifest_lines.specs.declared.error.ManifestError.TheVariants as faults
+use Rattle.surf_manifest_lines.specs.declared.error.Block.{Block}
+use Rattle.surf_manifest_lines.specs.declared.error.Block.TheVariants as blocks
 use Rattle.surf_manifest_print.specs.declared.legend_error.LegendError.{LegendError}
 use Rattle.surf_manifest_print.specs.declared.legend_error.LegendError.TheVariants as legends
 use Rattle.surf_trace.specs.declared.error.TraceError.{TraceError}

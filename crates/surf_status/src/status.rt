@@ -5,7 +5,7 @@ ghost use Rattle.surf_status.specs.Endings.{answer_to, answer_to_bits, answer_to
 use surf_auto::SourceError;
 use surf_base::WriteFault;
 use surf_blif::BlifError;
-use surf_circuit::SetError;
+use surf_inputs::SetError;
 use surf_lattice::Site;
 use surf_logic::EvalError;
 use surf_manifest::ManifestError;

@@ -3,7 +3,7 @@ use Rattle.std.proofs.Common.{ℕ, ◌≡◌, ◌≤◌, ◌<◌, List, length, 
 use Rattle.std.specs.Io.KnownBytes.{Appends}
 use Rattle.surf_base.specs.Known.{ReadsWhole}
 use Rattle.surf_manifest.specs.Grammar.{ManifestText, manifest_of}
-use Rattle.surf_manifest.specs.declared.error.ManifestError.{ManifestError}
+use Rattle.surf_manifest_lines.specs.declared.error.ManifestError.{ManifestError}
 use Rattle.surf_blif.specs.Blifs.{parts_of}
 use Rattle.surf_status.specs.declared.status.Status.{Status}
 use Rattle.surf_status.specs.declared.status.Status.TheVariants.{Done, Refused, Usage, NotEnabled, ReadFault, WriteFault, NoMemory, TooLong}

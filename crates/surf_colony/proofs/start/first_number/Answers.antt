@@ -1,7 +1,7 @@
 use Rattle.std.proofs.Common.{◌≡◌, ◌<◌, ℕ, Some, true, length, slice_set, ap, sym, subst, ◌∙◌}
 use Rattle.std.specs.List.{list_all}
 use Rattle.surf_auto.specs.Sync.{Universe, box_of, universe}
-use Rattle.surf_manifest.specs.Item.{is_name}
+use Rattle.surf_manifest_lines.specs.Item.{is_name}
 use Rattle.surf_manifest.proofs.Growth.{texts_with}
 use Rattle.surf_sync.specs.Listing.{Keeps}
 use Rattle.surf_sync.proofs.Growing.{keeps_with}

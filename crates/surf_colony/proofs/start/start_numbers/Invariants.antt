@@ -3,7 +3,7 @@ use Rattle.std.specs.List.{list_all}
 use Rattle.surf_lattice.specs.AnyGrid.{grid_of}
 use Rattle.surf_lattice.specs.Grids.{site_at}
 use Rattle.surf_auto.specs.Sync.{box_of, universe}
-use Rattle.surf_manifest.specs.Item.{is_name}
+use Rattle.surf_manifest_lines.specs.Item.{is_name}
 use Rattle.surf_sync.specs.Listing.{Keeps, Name}
 use Rattle.surf_sync.specs.Rules.{below}
 use Rattle.surf_sync.specs.Spelling.{spell}

@@ -1,9 +1,9 @@
 use Rattle.std.proofs.Common.{sym, subst, ap, ◌≡◌, true}
 use Rattle.std.proofs.lemmas.Option.{slice_get_within}
-use Rattle.surf_manifest.specs.Said.{rule_of_sides}
-use Rattle.surf_manifest.specs.WellFormed.{is_rule}
+use Rattle.surf_manifest_lines.specs.Said.{rule_of_sides}
+use Rattle.surf_manifest_lines.specs.WellFormed.{is_rule}
 use Rattle.surf_manifest.proofs.Growth.{at_kept, text_at}
-use Rattle.surf_manifest.proofs.WellFormed.{one_names, first_names, second_names}
+use Rattle.surf_manifest_lines.proofs.WellFormed.{one_names, first_names, second_names}
 use Rattle.surf_manifest.proofs.numbering.numbered_rule.Goals as goal
 
 pub intern_two-requires-clause-names : goal.intern_two-requires-clause-names

@@ -1,5 +1,5 @@
 use Rattle.std.proofs.Common.{rules, arith, ◌∙◌, ◌-◌, length}
-use Rattle.surf_manifest.specs.Answers.{Refuses}
+use Rattle.surf_manifest_lines.specs.Answers.{Refuses}
 use Rattle.surf_manifest.specs.Grammar.{manifest_of}
 use Rattle.surf_manifest.specs.Readings.{reached_by}
 use Rattle.surf_manifest.proofs.Counts.{room_by}

@@ -1,7 +1,7 @@
 use Rattle.std.proofs.Common.{◌≡◌, ◌≤◌, ◌-◌, map, length}
 use Rattle.surf_text.specs.Bytes.{lines_of}
 use Rattle.surf_manifest.specs.Drafts.{IsDraft}
-use Rattle.surf_manifest.specs.Line.{line_of}
+use Rattle.surf_manifest_lines.specs.Line.{line_of}
 use Rattle.surf_manifest.specs.Grammar.{manifest_of}
 use Rattle.surf_manifest.specs.Limits.{after_lines, at_start, read_on}
 use Rattle.surf_manifest.specs.Readings.{IsCounted, reached_by}

@@ -2,7 +2,7 @@ use Rattle.std.proofs.Common.{rules, ap, sym, ◌∙◌, arith, ◌≡◌, ◌+�
 use Rattle.std.specs.List.{list_all}
 use Rattle.surf_text.specs.Bytes.{tokens_of}
 use Rattle.surf_manifest.specs.Drafts.{IsDraft, held_by}
-use Rattle.surf_manifest.specs.Item.{is_name}
+use Rattle.surf_manifest_lines.specs.Item.{is_name}
 use Rattle.surf_manifest.specs.Limits.{with_names}
 use Rattle.surf_manifest.proofs.LimitLemmas.{names_more}
 use Rattle.surf_manifest.proofs.RowLemmas.{no_names, row_goes_on}

@@ -3,7 +3,7 @@ use Rattle.surf_world.specs.Systems as systems
 use Rattle.surf_manifest.specs.Limits.{with_rule}
 use Rattle.surf_manifest.specs.Naming.{rule_names}
 use Rattle.surf_manifest.specs.Drafts.{named_rule, held_by}
-use Rattle.surf_manifest.specs.Said.{rule_of_line}
+use Rattle.surf_manifest_lines.specs.Said.{rule_of_line}
 use Rattle.surf_manifest.proofs.DraftLemmas.{rules_full, rules_with, rule_named, rule_unnamed}
 use Rattle.surf_manifest.proofs.Growth.{names_kept}
 use Rattle.surf_manifest.proofs.draft.Draft.add_rule.Goals as goal

@@ -1,6 +1,6 @@
 use Rattle.std.proofs.Common.{arith, sym, ◌≡◌, ◌+◌}
 use Rattle.surf_manifest.specs.Drafts.{held_by}
-use Rattle.surf_manifest.specs.Kinds.{line_of_kind}
+use Rattle.surf_manifest_lines.specs.Kinds.{line_of_kind}
 use Rattle.surf_manifest.specs.Limits.{counted}
 use Rattle.surf_manifest.specs.Readings.{reached_by}
 use Rattle.surf_manifest.proofs.ReadingLemmas.{line_room, number_more}
