@@ -1,2 +1,3 @@
 pub mod Adders
 pub mod Votes
+pub mod Summaries
