@@ -1,11 +1,11 @@
 -- When each answer of the program comes, and what it leaves.
-use Rattle.std.specs.Prelude.{ℕ, ◌≡◌, ◌<◌, ◌≤◌, ◌⊎◌, List, length, Option, Some, None, IfSome, IfOk}
+use Rattle.std.specs.Prelude.{ℕ, ◌≡◌, ◌<◌, ◌≤◌, ◌⊎◌, Bool, true, false, List, [], length, Option, Some, None, IfSome, IfOk}
 use Rattle.std.specs.Io.KnownBytes.{Appends, IsAtEnd}
 use Rattle.surf_base.specs.Causes.{Rose}
 use Rattle.surf_manifest.specs.Grammar.{manifest_of}
 use Rattle.surf_status.specs.declared.status.Status.{Status}
 use Rattle.surf_status.specs.declared.status.Status.TheVariants.{Done, Refused, Usage, NotEnabled, ReadFault, WriteFault, NoMemory, TooLong}
-use Rattle.surf_top.specs.Jobs.{Job, Run, Circuit, Automaton}
+use Rattle.surf_top.specs.Jobs.{Job, Run, Circuit, Automaton, reads}
 use Rattle.surf_top.specs.Outputs.{call_of}
 use Rattle.surf_blif.specs.Blifs.{parts_of}
 use Rattle.surf_command_automata.specs.Automata.{HoldsColony}
@@ -46,25 +46,40 @@ abbrev pub ReadWhole : Ends → (List ℕ → Type 0) → Type 0
 ReadWhole e P =
     IsAtEnd e.left_after × IfSome e.left_before (λ input. (length input ≤ limit) × P input)
 
+-- of the input that the job was carried out for, and of no bytes where the job reads none
+abbrev pub Received : Bool → Ends → (List ℕ → Type 0) → Type 0
+Received true e P = ReadWhole e P
+Received false e P = P []
+
 -- when each answer comes; of want of memory nothing is said but that no fault was
 abbrev pub HasCauses : Option Job → Ends → Status → Type 0
 HasCauses None e Usage = Unit {0}
 HasCauses (Some job) e Usage = ⊥
 HasCauses None e Done = ⊥
-HasCauses (Some job) e Done = ReadWhole e (λ input. WroteWhole (call_of job input) e.out.old e.out.new)
+HasCauses (Some job) e Done =
+    Received (reads job) e (λ input. WroteWhole (call_of job input) e.out.old e.out.new)
 HasCauses None e (Refused r) = ⊥
-HasCauses (Some job) e (Refused r) = ReadWhole e (λ input. (call_of job input).Refuses r)
+HasCauses (Some job) e (Refused r) =
+    Received (reads job) e (λ input. (call_of job input).Refuses r)
 HasCauses None e (NotEnabled k) = ⊥
-HasCauses (Some job) e (NotEnabled k) = ReadWhole e (λ input. (call_of job input).Bad k)
+HasCauses (Some job) e (NotEnabled k) =
+    Received (reads job) e (λ input. (call_of job input).Bad k)
 HasCauses None e ReadFault = ⊥
-HasCauses (Some job) e ReadFault = Rose e.reads_before e.reads_after
+HasCauses (Some job) e ReadFault = (reads job ≡ true) × Rose e.reads_before e.reads_after
 HasCauses None e TooLong = ⊥
-HasCauses (Some job) e TooLong = IfSome e.left_before (λ input. limit < length input)
+HasCauses (Some job) e TooLong =
+    (reads job ≡ true) × IfSome e.left_before (λ input. limit < length input)
 HasCauses None e WriteFault = ⊥
 HasCauses (Some job) e WriteFault =
-    Rose e.out.before e.out.now × ReadWhole e (λ input. WroteFront (call_of job input) e.out.old e.out.new)
+    Rose e.out.before e.out.now
+    × Received (reads job) e (λ input. WroteFront (call_of job input) e.out.old e.out.new)
 HasCauses None e NoMemory = ⊥
 HasCauses (Some job) e NoMemory = NoFaults e
+
+-- of the input of a job, if it is not too long, and of no bytes where the job reads none
+abbrev pub Offered : Bool → Ends → (List ℕ → Type 0) → Type 0
+Offered true e P = IfSome e.left_before (λ input. length input ≤ limit → P input)
+Offered false e P = P []
 
 -- Where the words are a command, the input is not too long, it has an output, and no count of
 -- faults rose, the answer is Done, or want of memory.
@@ -72,7 +87,7 @@ abbrev pub IsComplete : Option Job → Ends → Status → Type 0
 IsComplete None e status = Unit {0}
 IsComplete (Some job) e status =
     (Rose e.reads_before e.reads_after → ⊥) → (Rose e.out.before e.out.now → ⊥)
-    → IfSome e.left_before (λ input. length input ≤ limit → (call_of job input).Has →
+    → Offered (reads job) e (λ input. (call_of job input).Has →
     (status ≡ Done) ⊎ (status ≡ NoMemory))
 
 -- where the answer is Done, a text was written that shows this of the input
@@ -98,11 +113,9 @@ PrintsCircuit (Some Circuit) e status =
     PrintsWhat e status (λ input text. HoldsCircuit (parts_of input) text)
 PrintsCircuit (Some job) e status = Unit {0}
 
--- In what `automaton` writes the grammar reads a manifest. In every run of it, in whatever order
--- its
+-- In what `automaton` writes the grammar reads a manifest. In every run of it, in whatever order its
 -- events come, a cell of generation k shows the synchronous state of k of the automaton that was
--- read,
--- and neighbours are within one generation. With a last generation each run ends there.
+-- read, and neighbours are within one generation. With a last generation each run ends there.
 abbrev pub PrintsColony : Option Job → Ends → Status → Type 0
 PrintsColony None e status = Unit {0}
 PrintsColony (Some (Automaton margin last)) e status =

@@ -3,9 +3,10 @@ use Rattle.std.specs.Prelude.{ℕ, List}
 use Rattle.surf_status.specs.Calls.{Call}
 use Rattle.surf_command_runs.specs.Calls.{run_call, format_call}
 use Rattle.surf_command_traces.specs.Calls.{replay_call, outputs_call, observe_call}
-use Rattle.surf_command_circuits.specs.Calls.{eval_call, circuit_call, set_call}
+use Rattle.surf_command_circuits.specs.Calls.{eval_call, circuit_call, set_call, adder_call}
 use Rattle.surf_command_automata.specs.Calls.{step_call, automaton_call}
-use Rattle.surf_top.specs.Jobs.{Job, Run, Format, Eval, Circuit, Set, Automaton, Step, Replay, Outputs, Observe}
+use Rattle.surf_command_vote.specs.Calls.{vote_call}
+use Rattle.surf_top.specs.Jobs.{Job, Run, Format, Eval, Circuit, Set, Automaton, Step, Replay, Outputs, Observe, DemoAdder, DemoVote}
 
 -- what a job writes for an input, when it refuses it, and what its text shows
 abbrev pub call_of : Job → List ℕ → Call
@@ -19,6 +20,8 @@ call_of (Step times) input = step_call times input
 call_of Replay input = replay_call input
 call_of Outputs input = outputs_call input
 call_of (Observe k) input = observe_call k input
+call_of (DemoAdder n) input = adder_call n
+call_of (DemoVote n) input = vote_call n
 
 -- a job writes this text for an input
 abbrev pub IsText : Job → List ℕ → List ℕ → Type 0

@@ -1,12 +1,12 @@
-// The commands that are carried out.
+// The jobs of the program.
 ghost use Rattle.std.specs.Prelude.{◌≡◌, Some, None, IfSome, MatchOption, map, string_bytes};
 ghost use Rattle.surf_words.specs.Words as words;
 ghost use Rattle.surf_words.specs.Words.{spoken};
-ghost use Rattle.surf_top.specs.Jobs.{IsWithin, job_for, job_of, meant};
+ghost use Rattle.surf_top.specs.Jobs.{IsWithin, job_for, job_of, meant, reads};
 
 use surf_words::{Command, read_words};
 
-/// A command that is carried out.
+/// A command with its values.
 #[derive(Clone, Copy, Debug)]
 pub enum Job<'a> {
     /// At most `count` events of the simulation that `seed` gives.
@@ -31,44 +31,56 @@ pub enum Job<'a> {
     Outputs,
     /// The states of each cell's generation `k`, read off a trace.
     Observe { k: u64 },
+    /// What an adder of so many bits comes to.
+    DemoAdder { n: u32 },
+    /// What a vote of so many by so many cells comes to.
+    DemoVote { n: u32 },
 }
 
-fn job_for<'a>(command: &Command<'a>) -> Option<Job<'a>>
-    requires within { words.IsWithin (spoken command.now) }
-    ensures job { MatchOption result (job_for (Some (spoken command.now)) ≡ None)
-        (λ j. job_for (Some (spoken command.now)) ≡ Some (meant j)) }
-    ensures within { IfSome result (λ j. IsWithin (meant j)) }
-{
-    match command {
-        Command::Run { seed, count } => Some(Job::Run {
-            seed: *seed,
-            count: *count,
-        }),
-        Command::Format => Some(Job::Format),
-        Command::Eval { bits } => Some(Job::Eval { bits: *bits }),
-        Command::Circuit => Some(Job::Circuit),
-        Command::Set { bits } => Some(Job::Set { bits: *bits }),
-        Command::Automaton { margin, last } => Some(Job::Automaton {
-            margin: *margin,
-            last: *last,
-        }),
-        Command::Step { times } => Some(Job::Step { times: *times }),
-        Command::Replay => Some(Job::Replay),
-        Command::Outputs => Some(Job::Outputs),
-        Command::Observe { k } => Some(Job::Observe { k: *k }),
-        Command::DemoAdder { .. } => None,
-        Command::DemoVote { .. } => None,
+impl Job<'_> {
+    /// Whether the job reads an input.
+    pub fn reads(&self) -> bool
+        ensures { result ≡ reads (meant self.now) }
+    {
+        !matches!(self, Job::DemoAdder { .. } | Job::DemoVote { .. })
     }
 }
 
-/// The job that the words ask for, if they spell a command that is carried out.
+fn job_for<'a>(command: &Command<'a>) -> Job<'a>
+    requires within { words.IsWithin (spoken command.now) }
+    ensures job { meant result ≡ job_for (spoken command.now) }
+    ensures within { IsWithin (meant result) }
+{
+    match command {
+        Command::Run { seed, count } => Job::Run {
+            seed: *seed,
+            count: *count,
+        },
+        Command::Format => Job::Format,
+        Command::Eval { bits } => Job::Eval { bits: *bits },
+        Command::Circuit => Job::Circuit,
+        Command::Set { bits } => Job::Set { bits: *bits },
+        Command::Automaton { margin, last } => Job::Automaton {
+            margin: *margin,
+            last: *last,
+        },
+        Command::Step { times } => Job::Step { times: *times },
+        Command::Replay => Job::Replay,
+        Command::Outputs => Job::Outputs,
+        Command::Observe { k } => Job::Observe { k: *k },
+        Command::DemoAdder { n } => Job::DemoAdder { n: *n },
+        Command::DemoVote { n } => Job::DemoVote { n: *n },
+    }
+}
+
+/// The job that the words ask for, if they spell a command.
 pub fn read_job(words: &[String]) -> Option<Job<'_>>
     ensures job { MatchOption result (job_of (map string_bytes words.now) ≡ None)
         (λ j. job_of (map string_bytes words.now) ≡ Some (meant j)) }
     ensures within { IfSome result (λ j. IsWithin (meant j)) }
 {
     match read_words(words) {
-        Ok(command) => job_for(&command),
+        Ok(command) => Some(job_for(&command)),
         Err(_) => None,
     }
 }

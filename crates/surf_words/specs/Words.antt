@@ -37,9 +37,12 @@ spoken (variants.Observe k) = Observe k
 spoken (variants.DemoAdder n) = DemoAdder n
 spoken (variants.DemoVote n) = DemoVote n
 
--- the margin of an automaton and its last generation, if one is given, are within their limits
+-- the margin of an automaton and its last generation, if one is given, and the size of a
+-- demonstration are within their limits
 abbrev pub IsWithin : Spoken → Type 0
 IsWithin (Automaton margin last) = (margin ≤ 1000) × IfSome last (λ n. (1 ≤ n) × (n ≤ 1000000))
+IsWithin (DemoAdder n) = (1 ≤ n) × (n ≤ 32)
+IsWithin (DemoVote n) = (1 ≤ n) × (n ≤ 64)
 IsWithin other = Unit {0}
 
 -- BITS: a word of 0 and 1, which may be empty
