@@ -1,3 +1,5 @@
 pub mod Valued
 pub mod Surfaces
 pub mod Sound
+mod AdderText
+pub mod Adders

@@ -1,4 +1,4 @@
--- An input that `eval`, `circuit` or `set` refuses has no text.
+-- An input that is refused has no text.
 use Rattle.std.proofs.Common.{ℕ, ◌≡◌, Bool, List, Option, Some, None, is_ok, refl, sym, ◌∙◌, ap}
 use Rattle.std.proofs.lemmas.Bool.{false≢true}
 use Rattle.surf_blif.specs.declared.error.BlifError.{BlifError}
@@ -11,7 +11,7 @@ use Rattle.surf_inputs.specs.Inputs.{set_fault}
 use Rattle.surf_status.specs.declared.status.Refusal.{Refusal}
 use Rattle.surf_status.specs.declared.status.Refusal.TheVariants.{Manifest, Legend, LegendSite, Trace, NotCells, Blif, Bits, NotInput, Source}
 use Rattle.surf_status.specs.Calls.{IsExclusive}
-use Rattle.surf_command_circuits.specs.Calls.{eval_call, circuit_call, set_call, IsBlifRefused, IsCircuitRefused, IsEvalRefused, IsSetRefused}
+use Rattle.surf_command_circuits.specs.Calls.{eval_call, circuit_call, set_call, adder_call, IsBlifRefused, IsCircuitRefused, IsEvalRefused, IsSetRefused}
 use Rattle.surf_command_circuits.specs.Sets.{SetsWith}
 use Rattle.surf_command_circuits.specs.Values.{IsAccepted, HasValues}
 
@@ -75,3 +75,6 @@ circuit_exclusive input = record { refused = no_surface input; bad = λ k is ok.
 
 pub set_exclusive : (bits : List Bool) (input : List ℕ) → IsExclusive (set_call bits input)
 set_exclusive bits input = record { refused = not_set bits input; bad = λ k is ok. is }
+
+pub adder_exclusive : (n : ℕ) → IsExclusive (adder_call n)
+adder_exclusive n = record { refused = λ r is ok. is; bad = λ k is ok. is }

@@ -1,4 +1,4 @@
--- What `eval`, `circuit` and `set` promise of an input.
+-- What `eval`, `circuit` and `set` promise of an input, and what `demo adder` does.
 use Rattle.std.specs.Prelude.{ℕ, ◌≡◌, Bool, List, None, Some, Err, IsOk}
 use Rattle.surf_blif.specs.Blifs.{Refuses, parts_of}
 use Rattle.surf_blif.specs.declared.error.BlifError.{BlifError}
@@ -12,6 +12,7 @@ use Rattle.surf_status.specs.Calls.{Call}
 use Rattle.surf_command_circuits.specs.Values.{HasValues, IsAccepted, TellsValues, MissesBits}
 use Rattle.surf_command_circuits.specs.Compiled.{HoldsCircuit, IsCompiled}
 use Rattle.surf_command_circuits.specs.Sets.{IsSet, SetsWith}
+use Rattle.surf_command_circuits.specs.Adders.{IsAdderShown}
 
 -- a fault of the text refuses it: the error tells one, and is no want of memory
 abbrev pub IsBlifRefused : List ℕ → BlifError → Type 0
@@ -80,6 +81,16 @@ set_call bits input = record {
   Is = IsSet bits input;
   Has = SetsWith bits input None;
   Refuses = IsSetRefused bits input;
+  Bad = λ k. ⊥;
+  Shows = λ text. Unit {0};
+}
+
+-- `demo adder N`, which reads no input and refuses nothing
+abbrev pub adder_call : ℕ → Call
+adder_call n = record {
+  Is = IsAdderShown n;
+  Has = Unit {0};
+  Refuses = λ r. ⊥;
   Bad = λ k. ⊥;
   Shows = λ text. Unit {0};
 }

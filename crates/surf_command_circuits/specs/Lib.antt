@@ -2,4 +2,5 @@ pub mod Bits
 pub mod Values
 pub mod Compiled
 pub mod Sets
+pub mod Adders
 pub mod Calls

@@ -23,8 +23,8 @@ fn bit_byte(value: bool) -> u8
     if value { b'1' } else { b'0' }
 }
 
-// A line for each output, with its name and its value.
-fn print_values<K: Sink>(
+/// A line for each output, with its name and its value.
+pub(crate) fn print_values<K: Sink>(
     names: &Names,
     outputs: &[u32],
     values: &[bool],

@@ -1,0 +1,7 @@
+-- A vote has its text.
+use Rattle.std.proofs.Common.{ℕ}
+use Rattle.surf_status.specs.Calls.{IsExclusive}
+use Rattle.surf_command_vote.specs.Calls.{vote_call}
+
+pub vote_exclusive : (n : ℕ) → IsExclusive (vote_call n)
+vote_exclusive n = record { refused = λ r is ok. is; bad = λ k is ok. is }
