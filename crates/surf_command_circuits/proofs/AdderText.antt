@@ -1,16 +1,14 @@
 -- The text of an adder spells a circuit.
-use Rattle.std.proofs.Common.{◌⊎◌, inl, inr, ◌≢◌, ℕ, zero, suc, ◌≡◌, ◌+◌, ◌*◌, ◌≤◌, ◌<◌, ◌==◌, nat_le, ◌&&◌, Bool, true, false, not, List, [], ◌∷◌, length, Option, None, Some, is_some, refl, sym, ◌∙◌, subst, arith, ⊎_elim}
+use Rattle.std.proofs.Common.{ℕ, ◌≡◌, ◌+◌, ◌*◌, ◌≤◌, ◌==◌, nat_le, ◌&&◌, Bool, true, not, List, [], ◌∷◌, length, Option, None, Some, is_some, refl, sym, ◌∙◌, arith, ⊎_elim}
 use Rattle.std.specs.Fmt.{digits}
 use Rattle.std.specs.Str.{bytes_eq}
-use Rattle.std.proofs.lemmas.Bool.{and_parts, cases_Bool, leb-true, eqb-false, eqb-true, false≢true}
-use Rattle.std.proofs.lemmas.Slice.Eq.{bytes_eq-Decides}
+use Rattle.std.proofs.lemmas.Bool.{and_parts, leb-true, eqb-true, false≢true}
 use Rattle.surf_world.proofs.Renamed.{bytes_to, bytes_from}
 use Rattle.surf_demo.specs.Adders.{adder_text}
+use Rattle.surf_demo.proofs.UpTo.{holds_at, holds_to}
 use Rattle.surf_logic.specs.Equations.{EquationOf, PartsOf, cost_of}
 use Rattle.surf_logic.specs.Order.{DependsOn, Fault, FirstCyclic, HasFault, DeclaredTwice, DrivenTwice, Undriven, NoOutputs, Cycle, Ordered, first_twice, is_ready, list_fault, outputs_of}
 use Rattle.surf_logic.proofs.Taking.{acyclic}
-use Rattle.surf_blif.specs.declared.error.BlifError.{BlifError}
-use Rattle.surf_blif.specs.declared.error.BlifError.TheVariants as errors
 use Rattle.surf_blif.specs.Grammar.{TextFault}
 use Rattle.surf_blif.specs.Blifs.{BlifFault, HasBlifFault, InText, InCircuit, TooLarge, parts_of, text_fault}
 
@@ -29,27 +27,13 @@ is_sound n long parts fault =
     && (not (is_some (first_twice bytes_eq parts.inputs (outputs_of parts.equations)))
     && (in_order parts.inputs parts.equations && (length parts.inputs == 2 * n + 1))))))
 
-abbrev all_sound : ℕ → Bool
-all_sound zero = true
-all_sound (suc n) = is_sound (suc n) (length (adder_text (suc n))) (parts_of (adder_text (suc n))) (text_fault (adder_text (suc n))) && all_sound n
+abbrev is_adder : ℕ → Bool
+is_adder n = is_sound n (length (adder_text n)) (parts_of (adder_text n)) (text_fault (adder_text n))
 
 -- by computing each of them
-computed : all_sound 32 ≡ true
+computed : holds_to is_adder 32 ≡ true
 unfolding digits
 computed = refl
-
-last_or_below : (m n : ℕ) → n ≤ suc m → (suc m ≡ n) ⊎ (n ≤ m)
-last_or_below m n le =
-    ⊎_elim (λ e. inl (eqb-true (suc m) n e)) (λ e. inr (let apart : suc m ≢ n = eqb-false (suc m) n e in omega (arith, le, apart))) (cases_Bool (suc m == n))
-
-sound_below : (m n : ℕ) → all_sound m ≡ true → 1 ≤ n → n ≤ m → is_sound n (length (adder_text n)) (parts_of (adder_text n)) (text_fault (adder_text n)) ≡ true
-sound_below zero n h some le = absurd (omega (arith, some, le))
-sound_below (suc m) n h some le =
-    let p = and_parts _ _ h in
-    ⊎_elim
-    (λ is. subst (λ (k : ℕ). is_sound k (length (adder_text k)) (parts_of (adder_text k)) (text_fault (adder_text k)) ≡ true) is p.0)
-    (λ lt. sound_below m n p.1 some lt)
-    (last_or_below m n le)
 
 none_of : {X : Type 0} (o : Option X) → not (is_some o) ≡ true → o ≡ None
 none_of None h = refl
@@ -110,7 +94,7 @@ module _ (bytes : List ℕ) (n : ℕ) (few : 30 * n + 2 ≤ 1000) (s : IsSound n
   no_fault (InCircuit f) h = no_circuit_fault f h.2
 
 sound_adder : (n : ℕ) → 1 ≤ n → n ≤ 32 → IsSound n (length (adder_text n)) (parts_of (adder_text n)) (text_fault (adder_text n))
-sound_adder n some le = sound_parts n (length (adder_text n)) (parts_of (adder_text n)) (text_fault (adder_text n)) (sound_below 32 n computed some le)
+sound_adder n some le = sound_parts n (length (adder_text n)) (parts_of (adder_text n)) (text_fault (adder_text n)) (holds_at is_adder 32 n computed some le)
 
 pub adder_accepted : (n : ℕ) → 1 ≤ n → n ≤ 32 → (f : BlifFault) → HasBlifFault (adder_text n) f → ⊥
 adder_accepted n some le = no_fault (adder_text n) n (omega (arith, le)) (sound_adder n some le)

@@ -19,7 +19,6 @@ use Rattle.surf_circuit.specs.Compiled.{IsSurfaceOf}
 use Rattle.surf_status.specs.Calls.{EndsAs}
 use Rattle.surf_status.specs.Endings.{answer_to_blif, answer_to_bits}
 use Rattle.surf_status.specs.Writes.{Writes}
-use Rattle.surf_command_circuits.specs.Adders.{IsAdderShown}
 use Rattle.surf_command_circuits.specs.Calls.{adder_call}
 use Rattle.surf_command_circuits.specs.Values.{values_text}
 use Rattle.surf_command_circuits.proofs.AdderText.{adder_accepted, adder_cost, adder_inputs}

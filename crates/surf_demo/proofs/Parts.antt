@@ -1,5 +1,5 @@
 -- Texts that are appended part by part.
-use Rattle.std.proofs.Common.{ℕ, ◌≡◌, List, ◌++◌, Result, Ok, Err, OnOk, sym, ◌∙◌, ap, append_assoc}
+use Rattle.std.proofs.Common.{◌≡◌, List, ◌++◌, Result, Ok, Err, OnOk, ◌∙◌, ap, append_assoc}
 
 -- a text behind what was appended before
 pub two : {X : Type 0} (old a b one new : List X) → one ≡ old ++ a → new ≡ one ++ b → new ≡ old ++ (a ++ b)

@@ -1,4 +1,4 @@
-use Rattle.std.proofs.Common.{rules, ℕ, ◌≡◌, ◌≤◌, ◌∙◌, ◌++◌, Bool, List, length, map, refl, ap, sym, subst, arith}
+use Rattle.std.proofs.Common.{rules, ℕ, ◌≡◌, ◌≤◌, ◌∙◌, ◌++◌, Bool, List, length, map, refl, sym, subst, arith}
 use Rattle.surf_demo.specs.Adders.{adder_bits, adder_text}
 use Rattle.surf_demo.specs.Summaries.{adder_lines}
 use Rattle.surf_rules.specs.Names.{text_of}
