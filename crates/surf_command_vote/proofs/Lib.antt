@@ -1,1 +1,5 @@
+pub mod Counted
+pub mod CellPlaces
+pub mod Known
+pub mod VoteText
 pub mod Sound

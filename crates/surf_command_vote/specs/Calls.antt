@@ -3,7 +3,7 @@ use Rattle.std.specs.Prelude.{ℕ}
 use Rattle.surf_status.specs.Calls.{Call}
 use Rattle.surf_command_vote.specs.Shown.{IsVoteShown}
 
--- `demo vote N`, which reads no input and refuses nothing
+-- `demo vote N`, which reads no input
 abbrev pub vote_call : ℕ → Call
 vote_call n = record {
   Is = IsVoteShown n;

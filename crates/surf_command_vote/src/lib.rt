@@ -1,7 +1,8 @@
-//! The command `demo vote`.
+//! The demonstration of a vote: what its cells come to.
 //!
-//! It writes what the cells of a vote come to that take their steps each in its own time.
-//! `specs/Calls.antt` holds what it promises: the numbers of the run that seed 1 gives.
+//! [`show_vote`] makes the text of a vote's pattern, reads it as any pattern is read, takes its colony
+//! through a fixed number of events, and writes a few lines of what the cells came to.
+//! `specs/Calls.antt` holds what it promises: the exact text.
 #![tactic(auto)]
 
 mod voting;

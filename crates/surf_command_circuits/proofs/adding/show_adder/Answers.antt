@@ -1,5 +1,6 @@
 use Rattle.std.proofs.Common.{rules, ℕ, ◌≡◌, ◌≤◌, ◌∙◌, ◌++◌, Bool, List, length, map, refl, sym, subst, arith}
 use Rattle.surf_demo.specs.Adders.{adder_bits, adder_text}
+use Rattle.surf_demo.proofs.Lengths.{adder_short}
 use Rattle.surf_demo.specs.Summaries.{adder_lines}
 use Rattle.surf_rules.specs.Names.{text_of}
 use Rattle.surf_logic.specs.Answers.{HasEvalFault, IsEval}
@@ -10,7 +11,6 @@ use Rattle.surf_status.specs.Writes.{Wrote, writes}
 use Rattle.surf_status.proofs.Endings.{text_ends, loud}
 use Rattle.surf_command_circuits.specs.Calls.{adder_call}
 use Rattle.surf_command_circuits.specs.Values.{values_text}
-use Rattle.surf_command_circuits.proofs.AdderText.{adder_short}
 use Rattle.surf_command_circuits.proofs.Adders.{adder_read, adder_fits, adder_shown}
 use Rattle.surf_command_circuits.proofs.Surfaces.{spelled}
 use Rattle.surf_command_circuits.proofs.adding.show_adder.Goals as goal
@@ -18,7 +18,7 @@ use Rattle.surf_command_circuits.proofs.adding.show_adder.Goals as goal
 pub read_blif-requires : goal.read_blif-requires
 read_blif-requires g c =
     let is : c.deref.result.now ≡ adder_text c.args.n = c.deref.ensures.value ∙ c.in-Ok.ensures in
-    let short : length c.deref.result.now ≤ 10000 = subst (λ (b : List ℕ). length b ≤ 10000) (sym is) (adder_short c.args.n c.requires.0 c.requires.1) in
+    let short : length c.deref.result.now ≤ 5000 = subst (λ (b : List ℕ). length b ≤ 5000) (sym is) (adder_short c.args.n c.requires.1) in
     omega (arith, short)
 
 pub returns-in-Err-clause-ends : goal.returns-in-Err-clause-ends
