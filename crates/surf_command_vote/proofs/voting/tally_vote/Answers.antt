@@ -1,8 +1,8 @@
-use Rattle.std.proofs.Common.{arith, ℕ, ◌≡◌, ◌∙◌, ◌≤◌, List, length, Ok, false, is_ok, ap, sym, subst}
+use Rattle.std.proofs.Common.{arith, ℕ, ◌≡◌, ◌∙◌, List, length, Ok, ap, sym, subst}
 use Rattle.surf_auto.specs.Counts.{count_rule}
 use Rattle.surf_auto.specs.Sync.{Universe, box_of, universe}
 use Rattle.surf_rle.specs.Rle.{Refuses, rle_of}
-use Rattle.surf_rle.specs.Sources.{Plain, source_by}
+use Rattle.surf_rle.specs.Sources.{source_by}
 use Rattle.surf_demo.specs.Votes.{vote_text}
 use Rattle.surf_demo.proofs.Lengths.{vote_short}
 use Rattle.surf_command_vote.proofs.Known.{told}
